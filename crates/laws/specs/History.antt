@@ -1,0 +1,144 @@
+-- Demand 3: a store from its clearing through any sequence of clears, adds and reads, refused ones among them.
+-- Assumes nothing.
+use mathlib.Core.Path.{_≡_, refl, sym, ap, _∙_, subst}
+use mathlib.Core.Logic.{_⊎_, inl, inr, _↔_}
+use Prim.Native.Nat.{ℕ, zero, suc, _+_, _-_, _*_, _^_, _≤_, _<_}
+use native.Mathlib.Nat.{not-suc-le-zero}
+use native.Mathlib.Omega.{arith}
+use mathlib.Core.List.{List, [], _∷_, _++_, map, List·Memᴰ as Mem, List·Memᴰ·head as here, List·Memᴰ·tail as there}
+use lib.ListN.{length, getD, length-map}
+use lib.Dec.{leb, ltb}
+use borrow.Author.Tests.{ltb-true}
+use Rattle.scheme.specs.Cells.{Cell, at, tree, find, insert}
+use Rattle.laws.specs.Unique.{Sound, Below, sound-nil, sound-insert, find-cases, insert-old, insert-new, place-cases, at-old, at-new, unique}
+use Rattle.scheme.specs.Order.{orderOf}
+use Rattle.laws.specs.Reach.{Listing, listing}
+use Rattle.scheme.specs.Cells.{with}
+use Rattle.scheme.specs.Bag.{link, put, load, Loaded}
+use Rattle.laws.specs.Meaning.{Linked, Stored, stored}
+use Rattle.scheme.specs.Res.{Res, bad, ok, then, check}
+use Rattle.scheme.specs.Bag.{read, Got}
+use Rattle.scheme.specs.Write.{write}
+use Rattle.laws.specs.CellRound.{Fit}
+use Rattle.laws.specs.Accept.{Small, Accepted, read-inv, then-use, check-inv}
+use Rattle.laws.specs.Add.{Taken, add-inv, Typed}
+use Rattle.scheme.specs.Add.{Added, add}
+use Rattle.scheme.specs.Builder.{Builder}
+use Rattle.scheme.specs.Write.{serialized}
+use mathlib.Core.Bool.{Bool}
+use Rattle.scheme.specs.Res.{refusal}
+use Rattle.laws.specs.Demand3.{written-reads-back}
+
+abbrev pub AllFit : List Cell → Type 0
+AllFit s = (x : ℕ) → x < length s → Fit (at s x)
+
+fit-insert : (s : List Cell) (c : Cell) → AllFit s → Fit c → AllFit (insert s c)
+fit-insert s c F G = go (find-cases s c)
+  where
+    last : (x : ℕ) → (x < length s) ⊎ (x ≡ length s) → Fit (at (s ++ c ∷ []) x)
+    last x (inl h) = rw (at-old s c x h) (F x h)
+    last x (inr e) = rw (e, at-new s c) G
+
+    go : (find s c < length s) ⊎ (find s c ≡ length s) → AllFit (insert s c)
+    go (inl h) = rw (insert-old s c h) F
+    go (inr e) = rw (insert-new s c e) (λ x h. last x (place-cases s c x h))
+
+fit-with : (b : Cell) (rs : List ℕ) → length rs ≡ length (b .refs) → Fit b → Fit (with b rs)
+fit-with b rs e F = record { flag = F .flag; few = F .few; many = F .many; small = F .small; clean = F .clean; arity = rw e (F .arity) }
+
+fit-load : (s : List Cell) (i : ℕ) (bag : List Cell) → AllFit s → ((c : Cell) → Mem c bag → Fit c) → AllFit ((load s i bag) .store)
+fit-load s i [] F G = F
+fit-load s i (b ∷ bs) F G =
+    let l = load s (suc i) bs in
+    fit-insert (l .store) (link i b (l .nums)) (fit-load s (suc i) bs F (λ c m. G c (there m))) (fit-with b (map (λ (r : ℕ). getD (l .nums) (r - suc i) 0) (b .refs)) (length-map (b .refs) (λ (r : ℕ). getD (l .nums) (r - suc i) 0)) (G b (here refl)))
+
+-- what every store keeps to
+pub record Kept (cap : ℕ) (s : List Cell) : Type 0 where
+  pub sound : Sound s
+  pub fit : AllFit s
+  pub room : length s ≤ cap
+
+-- a call: its arguments
+pub data Op : Type 0 where
+  clears : Op
+  adds : Builder → Op
+  reads : Bool → ℕ → ℕ → List ℕ → Op
+
+abbrev pub TypedOp : Op → Type 0
+TypedOp clears = Unit {0}
+TypedOp (adds b) = Typed b
+TypedOp (reads whole scratch room b) = Small b
+
+abbrev pub addedStore : List Cell → Res Added → List Cell
+addedStore s (bad r) = s
+addedStore s (ok a) = a .store
+
+abbrev pub gotStore : List Cell → Res Got → List Cell
+gotStore s (bad r) = s
+gotStore s (ok g) = g .store
+
+module _ (cap : ℕ) where
+  abbrev pub after : List Cell → Op → List Cell
+  after s clears = []
+  after s (adds b) = addedStore s (add cap s b)
+  after s (reads whole scratch room b) = gotStore s (read whole scratch room cap s b)
+
+  kept-add : (s : List Cell) (a : Added) → Kept cap s → Taken cap s a → Kept cap (a .store)
+  kept-add s a K T = rw (T .store-is) (record { sound = sound-insert s (T .cell) (K .sound) (T .below); fit = fit-insert s (T .cell) (K .fit) (T .fit); room = T .free })
+
+  kept-read : (s : List Cell) (g : Got) → Kept cap s → Accepted cap s g → Kept cap (g .store)
+  kept-read s g K T = record { sound = rw (T .store-is) ((stored s (K .sound) 0 (T .bag .cells) (T .whole .linked)) .sound); fit = rw (T .store-is) (fit-load s 0 (T .bag .cells) (K .fit) (T .whole .fit)); room = T .free }
+
+  pub kept-after : (s : List Cell) (op : Op) → Kept cap s → TypedOp op → Kept cap (after s op)
+  kept-after s clears K t = record { sound = sound-nil; fit = λ x h. absurd (not-suc-le-zero h); room = omega arith }
+  kept-after s (adds b) K t = go (add cap s b) refl
+    where
+      go : (r : Res Added) → add cap s b ≡ r → Kept cap (addedStore s r)
+      go (bad r) e = K
+      go (ok a) e = kept-add s a K (add-inv cap s b a t e)
+  kept-after s (reads whole scratch room b) K t = go (read whole scratch room cap s b) refl
+    where
+      go : (r : Res Got) → read whole scratch room cap s b ≡ r → Kept cap (gotStore s r)
+      go (bad r) e = K
+      go (ok g) e = kept-read s g K (read-inv whole scratch room cap s b g t e)
+
+  -- the store after some calls
+  abbrev pub play : List Cell → List Op → List Cell
+  play s [] = s
+  play s (op ∷ ops) = play (after s op) ops
+
+  abbrev pub AllTyped : List Op → Type 0
+  AllTyped [] = Unit {0}
+  AllTyped (op ∷ ops) = TypedOp op × AllTyped ops
+
+  pub kept-play : (ops : List Op) (s : List Cell) → Kept cap s → AllTyped ops → Kept cap (play s ops)
+  kept-play [] s K t = K
+  kept-play (op ∷ ops) s K t = kept-play ops (after s op) (kept-after s op K (t .0)) (t .1)
+
+pub record Demand3 (cap : ℕ) (s : List Cell) : Type 0 where
+  pub lower : (i : ℕ) → i < length s → Below i ((at s i) .refs)
+  pub same : (i j : ℕ) → i < length s → j < length s → (i ≡ j) ↔ (tree s i ≡ tree s j)
+  pub lists : (root : ℕ) → root < length s → Listing s root (orderOf s root)
+  pub back : (root out : ℕ) (idx sum : Bool) → root < length s → (b : List ℕ) → serialized idx sum s root out ≡ ok b
+      → (whole : Bool) (scratch room : ℕ) → 2 * length (orderOf s root) ≤ scratch → 1 ≤ room
+      → read whole scratch room cap s b ≡ ok (record { counts = record { used = length b; cells = length (orderOf s root); roots = 1; added = 0 }; names = root ∷ []; store = s })
+
+write-inv : (out : ℕ) (idx sum : Bool) (s : List Cell) (root : ℕ) (b : List ℕ) → serialized idx sum s root out ≡ ok b → b ≡ write idx sum s root
+unfolding serialized
+write-inv out idx sum s root b e =
+    then-use (check (leb (length (write idx sum s root)) out) (refusal 20 (length (write idx sum s root)))) _ _ e λ u₃ x₃ e₃.
+    cc
+
+pub demand-3 : (cap : ℕ) → cap ≤ 4096 → (ops : List Op) → AllTyped cap ops → Demand3 cap (play cap [] ops)
+demand-3 cap h ops t = go (play cap [] ops) (kept-play cap ops [] start t)
+  where
+    start : Kept cap []
+    start = record { sound = sound-nil; fit = λ x h. absurd (not-suc-le-zero h); room = omega arith }
+
+    go : (s : List Cell) → Kept cap s → Demand3 cap s
+    go s K = record {
+      lower = K .sound .low;
+      same = λ i j hi hj. (λ e. ap (tree s) e, unique s (K .sound) i j hi hj);
+      lists = listing s (K .sound);
+      back = λ root out idx sum hr b e whole scratch room hx hy. rw (write-inv out idx sum s root b e) (written-reads-back whole scratch room cap idx sum s (K .sound) (K .fit) root hr (K .room) h hx hy);
+    }

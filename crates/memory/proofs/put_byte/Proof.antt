@@ -1,0 +1,24 @@
+-- `memory::put_byte` meets its contract. Assumes nothing.
+use Prim.Native.Nat.{ℕ, _≤_, _<_, _-_, _+_, _*_, _/_, _%_}
+use mathlib.Core.Path.{_≡_, refl, ap, sym, _∙_}
+use mathlib.Core.List.{List, [], _∷_, _++_, List·Memᴰ as Mem}
+use native.Mathlib.Omega.{arith}
+use Rattle.laws.specs.Puts.{puts-one}
+use borrow.Author.Needs.{needs}
+use Rattle.memory.proofs.put_byte.Statement.{statement}
+use Rattle.memory.proofs.put_byte.Tie as tie
+
+slice-write-out : tie.Need-slice-write-out
+slice-write-out c = search needs
+
+add-result : tie.Need-add-result
+add-result c = search needs
+
+same-length : tie.Need-same-length
+same-length c = search needs
+
+returns : tie.Need-returns
+returns c = (refl, puts-one _ _ _)
+
+pub put-byte-spec : {M : Type 1} → statement M
+put-byte-spec = tie.close (tie.spec slice-write-out add-result same-length returns)
