@@ -20,3 +20,6 @@ pub mod RoundLaws
 pub mod Records
 pub mod Puts
 pub mod Lists
+pub mod Folds
+pub mod Passes
+pub mod Lay
