@@ -1,4 +1,4 @@
--- Adding a cell: the rules of 01-scope.md, and that what is added is fit to be stored.
+-- Adding a cell: what was added is fit to be stored, and its references are held.
 -- Assumes nothing.
 use mathlib.Core.Path.{_≡_, refl, sym, ap, _∙_, subst}
 use mathlib.Core.Logic.{_⊎_, inl, inr, _≢_}

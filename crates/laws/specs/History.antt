@@ -78,6 +78,10 @@ gotStore s (bad r) = s
 gotStore s (ok g) = g .store
 
 module _ (cap : ℕ) where
+  -- a store that was cleared
+  pub kept-nil : Kept cap []
+  kept-nil = record { sound = sound-nil; fit = λ x h. absurd (not-suc-le-zero h); room = omega arith }
+
   abbrev pub after : List Cell → Op → List Cell
   after s clears = []
   after s (adds b) = addedStore s (add cap s b)
@@ -90,7 +94,7 @@ module _ (cap : ℕ) where
   kept-read s g K T = record { sound = rw (T .store-is) ((stored s (K .sound) 0 (T .bag .cells) (T .whole .linked)) .sound); fit = rw (T .store-is) (fit-load s 0 (T .bag .cells) (K .fit) (T .whole .fit)); room = T .free }
 
   pub kept-after : (s : List Cell) (op : Op) → Kept cap s → TypedOp op → Kept cap (after s op)
-  kept-after s clears K t = record { sound = sound-nil; fit = λ x h. absurd (not-suc-le-zero h); room = omega arith }
+  kept-after s clears K t = kept-nil
   kept-after s (adds b) K t = go (add cap s b) refl
     where
       go : (r : Res Added) → add cap s b ≡ r → Kept cap (addedStore s r)
@@ -102,43 +106,9 @@ module _ (cap : ℕ) where
       go (bad r) e = K
       go (ok g) e = kept-read s g K (read-inv whole scratch room cap s b g t e)
 
-  -- the store after some calls
-  abbrev pub play : List Cell → List Op → List Cell
-  play s [] = s
-  play s (op ∷ ops) = play (after s op) ops
-
-  abbrev pub AllTyped : List Op → Type 0
-  AllTyped [] = Unit {0}
-  AllTyped (op ∷ ops) = TypedOp op × AllTyped ops
-
-  pub kept-play : (ops : List Op) (s : List Cell) → Kept cap s → AllTyped ops → Kept cap (play s ops)
-  kept-play [] s K t = K
-  kept-play (op ∷ ops) s K t = kept-play ops (after s op) (kept-after s op K (t .0)) (t .1)
-
-pub record Demand3 (cap : ℕ) (s : List Cell) : Type 0 where
-  pub lower : (i : ℕ) → i < length s → Below i ((at s i) .refs)
-  pub same : (i j : ℕ) → i < length s → j < length s → (i ≡ j) ↔ (tree s i ≡ tree s j)
-  pub lists : (root : ℕ) → root < length s → Listing s root (orderOf s root)
-  pub back : (root out : ℕ) (idx sum : Bool) → root < length s → (b : List ℕ) → serialized idx sum s root out ≡ ok b
-      → (whole : Bool) (scratch room : ℕ) → 2 * length (orderOf s root) ≤ scratch → 1 ≤ room
-      → read whole scratch room cap s b ≡ ok (record { counts = record { used = length b; cells = length (orderOf s root); roots = 1; added = 0 }; names = root ∷ []; store = s })
-
-write-inv : (out : ℕ) (idx sum : Bool) (s : List Cell) (root : ℕ) (b : List ℕ) → serialized idx sum s root out ≡ ok b → b ≡ write idx sum s root
+-- what is written, if it is not refused
+pub write-inv : (out : ℕ) (idx sum : Bool) (s : List Cell) (root : ℕ) (b : List ℕ) → serialized idx sum s root out ≡ ok b → b ≡ write idx sum s root
 unfolding serialized
 write-inv out idx sum s root b e =
     then-use (check (leb (length (write idx sum s root)) out) (refusal 20 (length (write idx sum s root)))) _ _ e λ u₃ x₃ e₃.
     cc
-
-pub demand-3 : (cap : ℕ) → cap ≤ 4096 → (ops : List Op) → AllTyped cap ops → Demand3 cap (play cap [] ops)
-demand-3 cap h ops t = go (play cap [] ops) (kept-play cap ops [] start t)
-  where
-    start : Kept cap []
-    start = record { sound = sound-nil; fit = λ x h. absurd (not-suc-le-zero h); room = omega arith }
-
-    go : (s : List Cell) → Kept cap s → Demand3 cap s
-    go s K = record {
-      lower = K .sound .low;
-      same = λ i j hi hj. (λ e. ap (tree s) e, unique s (K .sound) i j hi hj);
-      lists = listing s (K .sound);
-      back = λ root out idx sum hr b e whole scratch room hx hy. rw (write-inv out idx sum s root b e) (written-reads-back whole scratch room cap idx sum s (K .sound) (K .fit) root hr (K .room) h hx hy);
-    }
