@@ -23,3 +23,5 @@ pub mod Lists
 pub mod Folds
 pub mod Passes
 pub mod Lay
+pub mod Lent
+pub mod Slices

@@ -1,0 +1,2 @@
+mod Prunes
+mod Measuring

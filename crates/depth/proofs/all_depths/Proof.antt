@@ -1,0 +1,75 @@
+-- `depth::all_depths` meets its contract. Assumes nothing.
+use Prim.Native.Nat.{ℕ, _≤_, _<_, _-_, _+_, _*_, min}
+use mathlib.Core.Path.{_≡_, refl, ap, sym, _∙_}
+use mathlib.Core.List.{List, _++_, map}
+use native.Mathlib.Omega.{arith}
+use lib.ListN.{length, drop, length-set}
+use Rattle.scheme.specs.Memory.{cellAt}
+use Rattle.scheme.specs.Fold.{below}
+use Rattle.scheme.specs.Depth.{depthStep}
+use Rattle.laws.specs.Passes.{pass-turn}
+use Rattle.depth.proofs.Prunes.{caps-depth}
+use borrow.Author.Needs.{needs}
+use Rattle.depth.proofs.all_depths.Statement.{statement}
+use Rattle.depth.proofs.all_depths.Tie as tie
+use Rattle.depth.proofs.all_depths.Reads as reads
+use Rattle.depth.proofs.all_depths.Lts as lts
+use Rattle.depth.proofs.depth_step.Reads as depth-step-reads
+
+abbrev Inv-loop : tie.InvT-loop
+Inv-loop table bytes n cap scratch₀ i₀ scratch i = (i ≤ n) × (length scratch ≡ length scratch₀) × (scratch ≡ map (min cap) (below depthStep 0 (cellAt table bytes) i) ++ drop i scratch₀)
+
+abbrev μ-loop : tie.MeasureT-loop
+μ-loop table bytes n cap scratch₀ i₀ scratch i = n - i
+
+loop-holds : tie.Need-loop-holds Inv-loop μ-loop
+unfolding below
+loop-holds c = (omega arith, refl, refl)
+
+depth-step-requires : tie.Need-depth-step-requires Inv-loop μ-loop
+depth-step-requires c κs = (c .before .before .before .before .before .before .pre .0 (c .before .before .loop .i) (omega arith), omega arith)
+
+mul-scratch : tie.Need-mul-scratch Inv-loop μ-loop
+mul-scratch c = omega (arith, c .before .before .before .before .before .before .before .good)
+
+slice-write-scratch : tie.Need-slice-write-scratch Inv-loop μ-loop
+slice-write-scratch c = omega arith
+
+add-i : tie.Need-add-i Inv-loop μ-loop
+add-i c = omega arith
+
+loop-less : tie.Need-loop-less Inv-loop μ-loop
+loop-less c = omega arith
+
+loop-again : tie.Need-loop-again Inv-loop μ-loop
+loop-again c =
+    let a = c .before .before .before .before .before .before .before in
+    let l = c .before .before .before .loop in (
+      omega arith,
+      simp length-set (l .inv .1),
+      pass-turn depthStep (a .args .cap) (caps-depth (a .args .cap)) (a .args .table .now) (a .args .bytes .now) (l .i) (c .depth-step .result) (l .scratch) (a .args .scratch .now) (a .pre .0 (l .i) (omega arith) .ok) (omega arith) (l .inv .2) (c .depth-step .ensures),
+    )
+
+same-length : tie.Need-same-length Inv-loop μ-loop
+same-length c = c .before .loop .inv .1
+
+returns : tie.Need-returns Inv-loop μ-loop
+returns c =
+    let e : c .before .loop .i ≡ c .before .before .before .before .before .args .n = omega arith in
+    c .before .loop .inv .2 ∙ rw e refl
+
+pub all-depths-spec : {M : Type 1} → statement M
+all-depths-spec =
+    tie.close
+    (tie.spec
+    Inv-loop
+    μ-loop
+    loop-holds
+    depth-step-requires
+    mul-scratch
+    slice-write-scratch
+    add-i
+    loop-less
+    loop-again
+    same-length
+    returns)

@@ -1,0 +1,17 @@
+-- `sound::sound_ref` meets its contract. Assumes nothing.
+use Prim.Native.Nat.{ℕ, _≤_, _<_, _+_, _-_, _*_, _/_}
+use mathlib.Core.Path.{_≡_, refl, sym}
+use native.Mathlib.Omega.{arith}
+use Rattle.sound.proofs.Laws.{ref-used, ref-unused}
+use borrow.Author.Needs.{needs}
+use Rattle.sound.proofs.sound_ref.Statement.{statement}
+use Rattle.sound.proofs.sound_ref.Tie as tie
+
+returns : tie.Need-returns
+returns c = ref-used _ _ (c .before .args .r) (c .before .args .i) (c .if1 .taken)
+
+returns-2 : tie.Need-returns-2
+returns-2 c = ref-unused _ _ (c .before .args .r) (c .before .args .i) (c .if1 .left)
+
+pub sound-ref-spec : {M : Type 1} → statement M
+sound-ref-spec = tie.close (tie.spec returns returns-2)

@@ -1,0 +1,5 @@
+pub mod Places
+pub mod Front
+pub mod CutLaws
+pub mod Cut
+pub mod Histories
