@@ -25,3 +25,4 @@ pub mod Passes
 pub mod Lay
 pub mod Lent
 pub mod Slices
+pub mod BitLaws

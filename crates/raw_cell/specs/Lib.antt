@@ -1,0 +1,3 @@
+pub mod Frame
+pub mod Paper
+pub mod Padding
