@@ -1,3 +1,4 @@
 pub mod Field
 pub mod Paper
+pub mod Then
 pub mod Laws

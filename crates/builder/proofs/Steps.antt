@@ -1,14 +1,14 @@
 -- The ways out of a step, over plain variables. Assumes nothing.
-use mathlib.Core.Path.{_≡_, refl, sym, _∙_}
+use mathlib.Core.Path.{_≡_, refl, sym}
 use mathlib.Core.Bool.{Bool, true, false}
 use mathlib.Core.List.{List}
-use Prim.Native.Nat.{ℕ, suc, _+_, _-_, _*_, _<_, _≤_}
+use Prim.Native.Nat.{ℕ, _+_, _-_, _*_, _<_, _≤_}
 use native.Mathlib.Numerals.{add-one}
 use native.Mathlib.Omega.{arith}
-use lib.Dec.{leb, ltb}
+use lib.Dec.{leb}
 use lib.ListN.{length, set, replicate}
 use borrow.Author.Tests.{le-leb, lt-leb, le-ltb, lt-ltb, leb-true, leb-false}
-use Rattle.scheme.specs.Res.{Res, bad, ok, refusal}
+use Rattle.scheme.specs.Res.{bad, ok, refusal}
 use Rattle.scheme.specs.Bits.{bitOf, bytesFor, firstBits}
 use Rattle.scheme.specs.Builder.{Builder, withBits, putBits, appended, repeated, referred}
 use Rattle.builder.specs.Paper.{longer, Builds}

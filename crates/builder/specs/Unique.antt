@@ -1,6 +1,5 @@
 -- Two answers that meet the contract of a step are equal, and so are two new builders. Assumes nothing.
 use mathlib.Core.Path.{_≡_, refl, sym, _∙_}
-use Prim.Native.Nat.{ℕ}
 use mathlib.Core.Bool.{Bool}
 use Rattle.scheme.specs.Res.{Res}
 use Rattle.scheme.specs.Builder.{Builder, newBuilder}

@@ -109,7 +109,7 @@ fn fill_bits(bytes: &mut [u8], at: usize, n: usize, bit: bool)
 }
 
 impl CellBuilder {
-    // An empty cell. 004 marks an empty builder as exotic; here the flag is given at the start.
+    // An empty cell. The Rust marks an empty builder as exotic; here the flag is given at the start.
     pub fn new(exotic: bool) -> Self
         ensures { λ r. ⌜ builderOf r ≡ newBuilder exotic ⌝ }
     {

@@ -1,8 +1,8 @@
 -- The rule at known inputs, each by computation: the check value of CRC-32C, and the examples of RFC 3720, appendix B.4.
 -- Assumes nothing.
 use mathlib.Core.Path.{_≡_, refl}
-use mathlib.Core.List.{List, [], _∷_, _++_}
-use Prim.Native.Nat.{ℕ, _-_}
+use mathlib.Core.List.{[], _∷_}
+use Prim.Native.Nat.{_-_}
 use lib.ListN.{replicate}
 use Rattle.scheme.specs.Crc.{crcStep, crcSteps, crcByte, crcRun, crcOf}
 use Rattle.crc32c.specs.Table.{tableOf}

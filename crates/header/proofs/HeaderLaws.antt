@@ -1,19 +1,16 @@
 -- Each way out of the readers of the header, over plain variables. Assumes nothing.
-use Prim.Native.Nat.{ℕ, _+_, _-_, _*_, _≤_, _<_}
-use mathlib.Core.Path.{_≡_, refl, sym}
-use mathlib.Core.Bool.{Bool, cond}
+use Prim.Native.Nat.{ℕ, _+_, _*_, _≤_, _<_}
+use mathlib.Core.Path.{_≡_, sym}
+use mathlib.Core.Bool.{cond}
 use mathlib.Core.List.{List}
-use borrow.Author.Tests.{eq-eqb, ne-eqb, le-leb, lt-leb}
-use lib.ListN.{length}
+use borrow.Author.Tests.{ne-eqb, le-leb, lt-leb}
 use Rattle.scheme.specs.Res.{bad, ok, refusal}
 use Rattle.scheme.specs.declared.Refusal.{Refusal}
 use Rattle.scheme.specs.Layout.{tagOk, Layout as Shape, layout}
-use Rattle.scheme.specs.Bag.{Past}
 use Rattle.bits.specs.Field.{fieldAt, byteAt, skipAt, skipFieldsAt}
 use Rattle.bits.specs.Laws.{field-bad, byte-bad}
 use Rattle.header.specs.Header.{Opening, flagsAt, checkedCounts, countsAt, placesAt, headerAt}
 use Rattle.header.specs.declared.Counts.{Counts}
-use Rattle.header.specs.declared.Header.{Header}
 
 -- the tag
 tag-indexed : (tag : ℕ) → tag ≡ 0x68ff65f3 → tagOk tag ≡ bad (refusal 4 0)

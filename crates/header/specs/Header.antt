@@ -7,7 +7,7 @@ use Rattle.scheme.specs.Refusals.{SIZE, OFFSET, COUNTS, CELLS, SCRATCH, ROOTROO
 use Rattle.scheme.specs.Limits.{maxCells}
 use Rattle.scheme.specs.Res.{Res, ok, then, check, refusal}
 use Rattle.scheme.specs.Layout.{tagOk, Layout, layout}
-use Rattle.scheme.specs.Bag.{Past, readScratch}
+use Rattle.scheme.specs.Bag.{readScratch}
 use Rattle.bits.specs.Field.{fieldAt, byteAt, skipAt, skipFieldsAt}
 use Rattle.header.specs.declared.Counts.{Counts}
 use Rattle.header.specs.declared.Header.{Header}

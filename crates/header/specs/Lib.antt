@@ -1,2 +1,4 @@
 pub mod Header
 pub mod Paper
+pub mod Tie
+pub mod Bounds

@@ -1,16 +1,15 @@
 -- Each way out of the readers of one cell, over plain variables. Assumes nothing.
 use Prim.Native.Nat.{ℕ, _+_, _-_, _*_, _/_, _%_, _≤_, _<_}
-use mathlib.Core.Path.{_≡_, refl}
+use mathlib.Core.Path.{_≡_}
 use mathlib.Core.List.{List}
 use borrow.Author.Tests.{eq-eqb, ne-eqb, le-leb, lt-leb}
 use lib.ListN.{getD}
 use Rattle.scheme.specs.Res.{bad, ok, refusal}
 use Rattle.scheme.specs.declared.Refusal.{Refusal}
 use Rattle.scheme.specs.Bits.{zeros}
-use Rattle.scheme.specs.Bag.{Past, hashes}
+use Rattle.scheme.specs.Bag.{hashes}
 use Rattle.bits.specs.Field.{byteAt, skipAt, skipFieldsAt}
 use Rattle.raw_cell.specs.Frame.{bitsIn, dataAt, bodyAt, frame}
-use Rattle.raw_cell.specs.declared.RawCell.{RawCell}
 
 module _ (b : List ℕ) (p d2 : ℕ) where
   pub data-cut : (r : Refusal) → skipAt b p ((d2 + 1) / 2) ≡ bad r → bad r ≡ dataAt b p d2

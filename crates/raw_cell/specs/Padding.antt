@@ -1,7 +1,8 @@
 -- The last 1 bit of a byte. Assumes nothing.
-use Prim.Native.Nat.{ℕ, zero, suc, _+_, _-_, _*_, _/_, _%_, _^_, _≤_, _<_}
+use Prim.Native.Nat.{ℕ, suc, _+_, _-_, _*_, _/_, _%_, _^_, _≤_, _<_}
 use mathlib.Core.Path.{_≡_, refl}
-use mathlib.Core.Bool.{Bool, true, false, _&&_, _||_}
+use mathlib.Core.Bool.{Bool, true, _&&_, _||_}
+use native.Mathlib.Omega.{arith}
 use borrow.Author.Tests.{eq-eqb, ne-eqb, leb-true, eqb-true}
 use lib.Dec.{eqb, leb}
 use Rattle.laws.specs.Tests.{and-left, and-right}
@@ -27,3 +28,13 @@ last-bit y h n =
     let t = allBelow-true 256 (λ y. lastTest y) lastTests y h in
     let u : (leb (zeros 8 y) 7 && eqb (y - 2 ^ zeros 8 y) (y / 2 ^ (zeros 8 y + 1) * 2 ^ (zeros 8 y + 1))) ≡ true = rw (ne-eqb y 0 n) at t in
     (leb-true (zeros 8 y) 7 (and-left (leb (zeros 8 y) 7) _ u), eqb-true _ _ (and-right (leb (zeros 8 y) 7) _ u))
+
+-- the last of the first r bits of a byte
+unitTests : allBelow 8 (λ r. eqb r 0 || eqb (128 / 2 ^ (r - 1)) (2 ^ (8 - r))) ≡ true
+unitTests = refl
+
+pub unit-is : (r : ℕ) → 1 ≤ r → r ≤ 7 → 128 / 2 ^ (r - 1) ≡ 2 ^ (8 - r)
+unit-is r g h =
+    let t = allBelow-true 8 (λ r. eqb r 0 || eqb (128 / 2 ^ (r - 1)) (2 ^ (8 - r))) unitTests r (omega arith) in
+    let z : (r ≡ 0 → ⊥) = λ e. omega arith in
+    eqb-true _ _ (rw (ne-eqb r 0 z) at t)

@@ -1,14 +1,19 @@
 // One cell of a bag by place: descriptors, hashes, data, references. Nothing is copied while a bag is looked at.
 ghost use mathlib.Core.Path.{_≡_};
+ghost use Prim.Native.Nat.{_+_, _-_, _*_, _/_, _^_, _≤_};
+ghost use lib.ListN.{length};
 ghost use Rattle.scheme.specs.Bits.{zeros};
 ghost use Rattle.scheme.specs.Bag.{hashes};
 ghost use Rattle.raw_cell.specs.Frame.{dataAt, bodyAt, frame};
+ghost use Rattle.raw_cell.specs.Block.{blockAt};
 ghost use Rattle.raw_cell.specs.Paper.{dataPaper, paperOf};
 use bits::Octet;
 use bits::Skip;
 use bits::read_byte;
 use bits::skip_bytes;
 use bits::skip_fields;
+use memory::put_bytes;
+use memory::zero_bytes;
 use scheme::MAX_REFS_COUNT;
 use scheme::PADDING;
 use scheme::REFS;
@@ -138,4 +143,31 @@ pub fn raw_cell(bytes: &[u8], at: usize, size: usize) -> RawCellAnswer
             }
         }
     }
+}
+
+// The first r bits of a byte, and 0 behind them.
+fn first_bits(b: u8, r: usize) -> u8
+    requires { ⌜ (1 ≤ r) × (r ≤ 7) ⌝ }
+    ensures { λ o. ⌜ o ≡ b / 2 ^ (8 - r) * 2 ^ (8 - r) ⌝ }
+{
+    let unit: u8 = 128 >> (r - 1);
+    b / unit * unit
+}
+
+// Interface between crates. The first `bits` bits at `at` into a block of 128 bytes, which is 0 behind them.
+pub fn copy_data(bytes: &[u8], at: usize, bits: usize, out: &mut [u8])
+    requires { ⌜ bits ≤ 1023 ⌝ }
+    requires { ⌜ at + (bits + 7) / 8 ≤ length (now bytes) ⌝ }
+    requires { ⌜ length (now out) ≡ 128 ⌝ }
+    ensures { λ _. ⌜ now (out .exit) ≡ blockAt (now (bytes .entry)) at bits ⌝ }
+{
+    zero_bytes(out);
+    let end = at + (bits + 7) / BYTE_BITS;
+    put_bytes(&bytes[at..end], out, 0);
+    let r = bits % BYTE_BITS;
+    if r == 0 {
+        return;
+    }
+    let last = bits / BYTE_BITS;
+    out[last] = first_bits(out[last], r);
 }

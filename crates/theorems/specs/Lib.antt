@@ -4,4 +4,14 @@ pub mod CutLaws
 pub mod Cut
 pub mod MeaningLaws
 pub mod Meaning
+pub mod Grammar
+pub mod GrammarOf
+pub mod GrammarBag
+pub mod GrammarBack
+pub mod Completion
+pub mod Accepts
+pub mod Written
+pub mod WritingLaws
+pub mod Writing
+pub mod Structure
 pub mod Histories

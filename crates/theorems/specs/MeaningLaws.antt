@@ -1,21 +1,21 @@
 -- What reading a bag's cells into a store means, for a store that may hold a cell twice: it grows, and each bag cell has a number of its structure.
 -- Assumes nothing.
 use mathlib.Core.Path.{_≡_, refl, sym, ap, _∙_}
-use mathlib.Core.Logic.{_⊎_, inl, inr}
+use mathlib.Core.Logic.{_⊎_, inl, inr, _≢_}
 use Prim.Native.Nat.{ℕ, zero, suc, _+_, _-_, _*_, _/_, _%_, _^_, _≤_, _<_}
 use native.Mathlib.Nat.{not-suc-le-zero, le-of-suc-le-suc}
 use native.Mathlib.Omega.{arith}
 use mathlib.Core.Bool.{Bool, true, false, cond}
 use mathlib.Core.List.{List, [], _∷_, _++_, map, List·Memᴰ as Mem, List·Memᴰ·head as here, List·Memᴰ·tail as there}
-use lib.ListN.{length, getD, length-append, length-map, List·getD-append}
+use lib.ListN.{length, getD, drop, length-append, length-map, List·getD-append}
 use Rattle.scheme.specs.Cells.{Cell, Tree, Forest, node, none, more, blank, at, forest, unfolded, tree, find, insert, with}
 use Rattle.scheme.specs.Bag.{link, put, load, Loaded, Got, Counts, read}
 use Rattle.scheme.specs.Calls.{readOut, reading}
 use Rattle.scheme.specs.Refusals.{STORE}
-use Rattle.scheme.specs.Bits.{lastOf}
+use Rattle.scheme.specs.Bits.{bytesFor, lastOf}
 use Rattle.scheme.specs.Res.{Res, bad, ok, then, check, refusal}
 use Rattle.scheme.specs.Memory.{cellAt, cellsOf, sound, held, layTable, layBytes, capacity}
-use Rattle.laws.specs.Accept.{then-use, check-inv}
+use Rattle.laws.specs.Accept.{Small, then-use, check-inv, mem-take}
 use Rattle.laws.specs.CellLaws.{cell-path}
 use Rattle.laws.specs.Unique.{Below, find-cases, insert-old, insert-new, place-cases, at-old, at-new}
 use Rattle.laws.specs.Meaning.{Linked, Extends, renamed, extends-refl, extends-insert, insert-at, insert-held, insert-keep, insert-longer}
@@ -103,7 +103,7 @@ placed s S i (b ∷ bs) L = step (load s (suc i) bs) (placed s S (suc i) bs (L .
             let later : (r : ℕ) → Mem r ((at bs k) .refs) → i < r = λ r m. let j = linked-at (suc i) bs (L .1) k g r m in omega arith in
             insert-keep (l .store) c (getD (l .nums) k 0) (W .held k g) ∙ W .cells k g ∙ renamed-shift i (find (l .store) c) (l .nums) (at bs k) later
 
-forest-map : (f g : ℕ → Tree) (n : ℕ → ℕ) (l : List ℕ) → ((r : ℕ) → Mem r l → f (n r) ≡ g r) → forest f (map n l) ≡ forest g l
+pub forest-map : (f g : ℕ → Tree) (n : ℕ → ℕ) (l : List ℕ) → ((r : ℕ) → Mem r l → f (n r) ≡ g r) → forest f (map n l) ≡ forest g l
 forest-map f g n [] h = refl
 forest-map f g n (x ∷ xs) h = let p = h x (here refl) in let q = forest-map f g n xs (λ y m. h y (there m)) in cc
 
@@ -199,6 +199,30 @@ clean-tail c F = go (c .len % 8) refl
         let q : (8 - c .len % 8) % 8 ≡ 8 - c .len % 8 = omega (arith, e) in
         let n : length (c .bytes) ≡ suc (c .len / 8) = F .many ∙ omega (arith, e) in
         rw (q, ← last-at (c .bytes) (c .len / 8) n) (F .clean (λ z. omega (arith, z, e)))
+
+mem-drop : (k : ℕ) (l : List ℕ) (x : ℕ) → Mem x (drop k l) → Mem x l
+mem-drop zero l x m = m
+mem-drop (suc k) [] x m = m
+mem-drop (suc k) (y ∷ ys) x m = there (mem-drop k ys x m)
+
+-- a cell that sound memory holds may stand in a bag
+wf-fit : (i : ℕ) (c : Cell) → WfCell i c → Small (c .bytes) → Fit c
+wf-fit i c W S = record { flag = W .flag; few = W .bits; many = W .size; small = S; clean = clean; arity = W .count }
+  where
+    clean : (c .len % 8 ≡ 0 → ⊥) → lastOf (c .bytes) % 2 ^ (8 - c .len % 8) ≡ 0
+    clean z =
+        let y : c .len % 8 ≢ 0 = z in
+        let q : (8 - c .len % 8) % 8 ≡ 8 - c .len % 8 = omega arith in
+        let n : length (c .bytes) ≡ suc (c .len / 8) = W .size ∙ omega arith in
+        rw (last-at (c .bytes) (c .len / 8) n) (rw q at (W .tail))
+
+pub memory-fit : (n : ℕ) (t d : List ℕ) → sound n t d ≡ true → Small d → (x : ℕ) → x < length (cellsOf n t d) → Fit (at (cellsOf n t d) x)
+unfolding cellAt
+memory-fit n t d e S x h =
+    let W = (wf-cells n t d (sound-is n t d e)) .each x h in
+    let g : x < n = rw (cells-length n t d) at h in
+    let small : Small ((at (cellsOf n t d) x) .bytes) = rw (cells-at n t d x g) (λ y m. S y (mem-drop (x * 128) d y (mem-take (bytesFor (getD t (x * 7 + 1) 0)) (drop (x * 128) d) y m))) in
+    wf-fit x (at (cellsOf n t d) x) W small
 
 -- a cell that a bag may hold, with references below i, may stand at number i of a store
 fit-wf : (i : ℕ) (c : Cell) → Fit c → Below i (c .refs) → WfCell i c

@@ -14,7 +14,9 @@ mask-requires c κs = search needs
 
 returns : tie.Need-returns
 returns c =
-    rw (c .mask .ensures) (bit-read (c .before .before .before .args .from .now) (c .before .before .before .args .i) (c .before .before .before .pre) (omega (arith, c .before .shared-slice-known2 .given (c .before .before .before .args .i / 8))))
+    let s = c .before .before .before in
+    rw (c .mask .ensures)
+    (bit-read (s .args .from .now) (s .args .i) (s .pre) (omega (arith, c .before .shared-slice-known2 .given (s .args .i / 8))))
 
 pub bit-at-spec : {M : Type 1} → statement M
 bit-at-spec = tie.close (tie.spec shared-slice-read-result mask-requires returns)

@@ -1,10 +1,9 @@
 -- `builder::copy_bits` meets its contract. The loop's invariant: the first i bits are put in. Assumes nothing.
 use mathlib.Core.Path.{_≡_, refl, sym, _∙_}
-use Prim.Native.Nat.{_≤_, _-_, _*_, _<_}
+use Prim.Native.Nat.{_≤_, _-_, _<_}
 use native.Mathlib.Omega.{arith}
 use lib.ListN.{length, take}
 use lib.Seq.{getD-take}
-use borrow.Author.Needs.{needs}
 use Rattle.laws.specs.Puts.{puts, puts-nil}
 use Rattle.scheme.specs.Bits.{bitOf, bitsOf, firstBits}
 use Rattle.laws.specs.BitLaws.{AllBytes, length-first, put-next, put-all}

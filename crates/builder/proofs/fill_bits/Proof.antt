@@ -1,9 +1,8 @@
 -- `builder::fill_bits` meets its contract. The loop's invariant: the bit is put in i times. Assumes nothing.
 use mathlib.Core.Path.{_≡_, refl, sym, _∙_}
-use Prim.Native.Nat.{_≤_, _-_, _*_, _<_}
+use Prim.Native.Nat.{_≤_, _-_, _<_}
 use native.Mathlib.Omega.{arith}
 use lib.ListN.{length, take, replicate, length-replicate, getD-replicate}
-use borrow.Author.Needs.{needs}
 use Rattle.laws.specs.Puts.{puts, puts-nil}
 use Rattle.scheme.specs.Bits.{bitOf, bitsOf}
 use Rattle.laws.specs.BitLaws.{AllBytes, put-next, put-all}

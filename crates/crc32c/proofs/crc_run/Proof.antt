@@ -1,12 +1,12 @@
 -- `crc32c::crc_run` meets its contract. The loop's invariant: the state, run over the bytes that are left, gives what the whole run
 -- gives. The measure is what is left of the length.
 -- Assumes nothing.
-use mathlib.Core.Path.{_≡_, refl, ap, _∙_}
-use Prim.Native.Nat.{ℕ, _≤_, _-_}
+use mathlib.Core.Path.{_≡_, refl, _∙_}
+use Prim.Native.Nat.{_≤_, _-_}
 use native.Mathlib.Omega.{arith}
-use lib.ListN.{length, drop, getD}
+use lib.ListN.{length, drop}
 use borrow.Author.Needs.{needs}
-use Rattle.scheme.specs.Crc.{crcSteps, crcStep, crcByte, crcRun}
+use Rattle.scheme.specs.Crc.{crcSteps, crcStep, crcRun}
 use Rattle.crc32c.specs.Table.{crcTable, tableOf}
 use Rattle.crc32c.proofs.Steps.{run-next, run-end}
 use Rattle.crc32c.proofs.crc_run.Statement.{statement}

@@ -2,7 +2,7 @@
 use mathlib.Core.Path.{_≡_, _∙_, sym, ap}
 use denote.Ref.{now}
 use Rattle.scheme.specs.Res.{ok}
-use Rattle.header.specs.Header.{flagsAt, countsAt}
+use Rattle.header.specs.Header.{flagsAt}
 use Rattle.header.specs.Paper.{flagsOf, flagsPaper, countsPaper}
 use Rattle.header.proofs.HeaderLaws.{no-flags, no-counts, header-places}
 use borrow.Author.Needs.{needs}

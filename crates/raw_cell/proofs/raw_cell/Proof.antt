@@ -1,5 +1,4 @@
 -- `raw_cell::raw_cell` meets its contract. Assumes nothing.
-use Prim.Native.Nat.{_%_, _≤_, _<_}
 use mathlib.Core.Path.{_≡_, _∙_, sym, ap}
 use native.Mathlib.Omega.{arith}
 use denote.Ref.{now}

@@ -1,10 +1,9 @@
 -- `raw_cell::read_body` meets its contract. Assumes nothing.
-use Prim.Native.Nat.{_%_}
 use mathlib.Core.Path.{_≡_, _∙_, sym, ap}
 use denote.Ref.{now}
 use Rattle.scheme.specs.Res.{ok}
 use Rattle.scheme.specs.Bag.{hashes}
-use Rattle.bits.specs.Field.{skipAt, skipFieldsAt}
+use Rattle.bits.specs.Field.{skipAt}
 use Rattle.bits.specs.Paper.{skipPaper}
 use Rattle.raw_cell.specs.Frame.{dataAt}
 use Rattle.raw_cell.specs.Paper.{dataPaper}

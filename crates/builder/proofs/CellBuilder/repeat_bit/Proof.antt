@@ -39,7 +39,8 @@ with-bits-requires c κs =
 returns-2 : tie.Need-returns-2
 returns-2 c =
     let s = c .before .before .before .before .before .before .before .args in
-    let fit : leb (s .self .len + s .n) 1023 ≡ true = sym (c .before .before .before .before .before .before .bits-fit .ensures) ∙ not-false _ (c .before .before .before .before .before .if1 .left) in
+    let fit : leb (s .self .len + s .n) 1023 ≡ true =
+    sym (c .before .before .before .before .before .before .bits-fit .ensures) ∙ not-false _ (c .before .before .before .before .before .if1 .left) in
     repeats-bytes (builderOf (s .self)) (s .n) (s .bit) (c .before .before .fill-bits .last .0) (c .with-bits .result) fit
     (c .before .before .fill-bits .ensures) (c .with-bits .ensures)
 

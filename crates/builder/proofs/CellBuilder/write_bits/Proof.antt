@@ -51,7 +51,8 @@ with-bits-requires c κs =
 returns-3 : tie.Need-returns-3
 returns-3 c =
     let s = c .before .before .before .before .before .before .before .before .before .before .args in
-    let fit : leb (s .self .len + s .n) 1023 ≡ true = sym (c .before .before .before .before .before .before .bits-fit .ensures) ∙ not-false _ (c .before .before .before .before .before .if2 .left) in
+    let fit : leb (s .self .len + s .n) 1023 ≡ true =
+    sym (c .before .before .before .before .before .before .bits-fit .ensures) ∙ not-false _ (c .before .before .before .before .before .if2 .left) in
     appends-bytes (builderOf (s .self)) (s .n) (s .from .now) (c .before .before .copy-bits .last .0) (c .with-bits .result) (omega arith) fit
     (c .before .before .copy-bits .ensures) (c .with-bits .ensures)
 

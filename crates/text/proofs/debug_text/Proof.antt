@@ -1,0 +1,71 @@
+-- `text::debug_text` meets its contract: the verdict, the scratch zeroed, and what is printed. Assumes nothing.
+use mathlib.Core.Path.{_≡_, ap, sym, _∙_}
+use native.Mathlib.Omega.{arith}
+use lib.ListN.{length, replicate}
+use Rattle.laws.specs.Puts.{puts-start}
+use Rattle.laws.specs.Records.{sound-cells}
+use Rattle.text.specs.Parts.{textAt}
+use Rattle.text.proofs.Printing.{went, refused, printed}
+use borrow.Author.Needs.{needs}
+use Rattle.text.proofs.debug_text.Statement.{statement}
+use Rattle.text.proofs.debug_text.Tie as tie
+use Rattle.text.proofs.debug_text.Reads as reads
+use Rattle.text.proofs.debug_text.Lts as lts
+use Rattle.memory.proofs.zero_numbers.Reads as zero-numbers-reads
+use Rattle.text.proofs.decide.Reads as decide-reads
+use Rattle.text.proofs.print_cell.Reads as print-cell-reads
+
+decide-requires : tie.Need-decide-requires
+decide-requires c κs = search needs
+
+zero-numbers-requires : tie.Need-zero-numbers-requires
+zero-numbers-requires c κs = search needs
+
+enum-known-v : tie.Need-enum-known-v
+enum-known-v c = search needs
+
+enum-told : tie.Need-enum-told
+enum-told c = search needs
+
+print-cell-requires : tie.Need-print-cell-requires
+print-cell-requires c κs =
+    let a = c .before .before .before .before .before .before .before .before .before .before .before .before .before .before .before .args in
+    let g = went _ _ _ _ _ _ _ (sym (c .before .before .before .before .before .before .before .before .before .decide .ensures) ∙ c .before .enum-told .given .1) in
+    (λ i l. sound-cells _ _ _ (g .whole) i (omega (arith, g .held)), omega (arith, g .fits))
+
+same-length : tie.Need-same-length
+same-length c = search needs
+
+returns : tie.Need-returns
+returns c =
+    let z = c .before .before .before .before .before .zero-numbers .ensures ∙ ap (λ k. replicate k 0) (c .before .before .before .before .before .before .before .before .before .decide .kept .1 .1 .1 .1 .1 .0) in
+    refused _ _ _ _ _ _ _ _ z _ (sym (c .before .before .before .before .before .before .before .before .before .decide .ensures) ∙ c .before .v .given .1)
+
+same-length-2 : tie.Need-same-length-2
+same-length-2 c = search needs
+
+same-length-3 : tie.Need-same-length-3
+same-length-3 c = search needs
+
+returns-2 : tie.Need-returns-2
+returns-2 c =
+    let a = c .before .before .before .before .before .before .before .before .before .before .before .before .before .before .before .before .before .before .args in
+    let z = c .before .before .before .before .before .before .before .before .zero-numbers .ensures ∙ ap (λ k. replicate k 0) (c .before .before .before .before .before .before .before .before .before .before .before .before .decide .kept .1 .1 .1 .1 .1 .0) in
+    let g = went _ _ _ _ _ _ _ (sym (c .before .before .before .before .before .before .before .before .before .before .before .before .decide .ensures) ∙ c .before .before .before .before .enum-told .given .1) in
+    let p = c .before .before .print-cell in
+    printed _ _ _ _ _ _ _ _ z _ _ _ g (omega (arith, p .ensures .0)) (p .ensures .1 .0) (p .ensures .1 .1 ∙ puts-start (a .out .now) (textAt (a .table .now) (a .bytes .now) (a .n)) (g .fits))
+
+pub debug-text-spec : {M : Type 1} → statement M
+debug-text-spec =
+    tie.close
+    (tie.spec
+    decide-requires
+    zero-numbers-requires
+    enum-known-v
+    enum-told
+    print-cell-requires
+    same-length
+    returns
+    same-length-2
+    same-length-3
+    returns-2)
