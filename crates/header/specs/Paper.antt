@@ -22,7 +22,7 @@ abbrev pub layoutOf : Layout → Shape
 layoutOf l = record { size = l .size; has-idx = l .indexed; has-crc = l .checked; has-list = true }
 
 abbrev pub flagsOf : Flags → Opening
-flagsOf f = record { shape = record { size = f .size; has-idx = f .indexed; has-crc = f .checked; has-list = true }; off = f .off }
+flagsOf f = record { shape = layoutOf (f .layout); off = f .off }
 
 abbrev pub flagsPaper : FlagsAnswer → Res Opening
 flagsPaper (Known f) = ok (flagsOf f)

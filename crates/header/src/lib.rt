@@ -51,9 +51,7 @@ pub struct Layout {
 
 // The layout, and the bytes of an offset.
 pub struct Flags {
-    pub size: usize,
-    pub indexed: bool,
-    pub checked: bool,
+    pub layout: Layout,
     pub off: usize,
 }
 
@@ -161,9 +159,7 @@ fn read_flags(bytes: &[u8]) -> FlagsAnswer
         });
     }
     FlagsAnswer::Known(Flags {
-        size: l.size,
-        indexed: l.indexed,
-        checked: l.checked,
+        layout: l,
         off: wide(off),
     })
 }
@@ -255,18 +251,18 @@ fn read_places(bytes: &[u8], f: Flags, c: Counts) -> HeaderAnswer
 {
     match skip_bytes(bytes, c.next, f.off) {
         Skip::Refused(r) => HeaderAnswer::Refused(r),
-        Skip::Past(list) => match skip_fields(bytes, list, f.size, c.roots) {
+        Skip::Past(list) => match skip_fields(bytes, list, f.layout.size, c.roots) {
             Skip::Refused(r) => HeaderAnswer::Refused(r),
             Skip::Past(index) => match skip_fields(
                 bytes,
                 index,
                 f.off,
-                entries(f.indexed, c.cells),
+                entries(f.layout.indexed, c.cells),
             ) {
                 Skip::Refused(r) => HeaderAnswer::Refused(r),
                 Skip::Past(first) => HeaderAnswer::Head(Header {
-                    checked: f.checked,
-                    size: f.size,
+                    checked: f.layout.checked,
+                    size: f.layout.size,
                     cells: c.cells,
                     roots: c.roots,
                     list,
@@ -283,7 +279,7 @@ pub fn read_header(bytes: &[u8], scratch: usize, rooms: usize) -> HeaderAnswer
 {
     match read_flags(bytes) {
         FlagsAnswer::Refused(r) => HeaderAnswer::Refused(r),
-        FlagsAnswer::Known(f) => match read_counts(bytes, f.size, scratch, rooms) {
+        FlagsAnswer::Known(f) => match read_counts(bytes, f.layout.size, scratch, rooms) {
             CountsAnswer::Refused(r) => HeaderAnswer::Refused(r),
             CountsAnswer::Counted(c) => read_places(bytes, f, c),
         },

@@ -97,6 +97,21 @@ module _ (t d : List ℕ) (i : ℕ) (s : CellSound t d i) (room : i * 7 + 7 ≤ 
       (part-at t (i * 7) 7 5 (omega arith) ∙ ref-at 2 (omega arith))
       (part-at t (i * 7) 7 6 (omega arith) ∙ ref-at 3 (omega arith))
 
+  -- the numbers of a sound record, one by one
+  pub row-numbers : rowOf [] (cellAt t d i)
+      ≡ getD t (i * 7) 0 ∷ getD t (i * 7 + 1) 0 ∷ getD t (i * 7 + 2) 0 ∷ getD t (i * 7 + 3) 0 ∷ getD t (i * 7 + 4) 0 ∷ getD t (i * 7 + 5) 0 ∷ getD t (i * 7 + 6) 0 ∷ []
+  row-numbers =
+      sym row-at
+      ∙ row-eq (take 7 (drop (i * 7) t)) _ _ _ _ _ _ _
+      (simp (length-take, length-drop) (omega arith))
+      (part-at t (i * 7) 7 0 (omega arith) ∙ ap (λ (k : ℕ). getD t k 0) (add-zero (i * 7)))
+      (part-at t (i * 7) 7 1 (omega arith))
+      (part-at t (i * 7) 7 2 (omega arith))
+      (part-at t (i * 7) 7 3 (omega arith))
+      (part-at t (i * 7) 7 4 (omega arith))
+      (part-at t (i * 7) 7 5 (omega arith))
+      (part-at t (i * 7) 7 6 (omega arith))
+
 -- the 128 bytes of a sound record
 module _ (t d : List ℕ) (i : ℕ) (s : CellSound t d i) (room : i * 128 + 128 ≤ length d) where
   pub block-at : take 128 (drop (i * 128) d) ≡ blockOf (cellAt t d i)

@@ -26,3 +26,4 @@ pub mod Lay
 pub mod Lent
 pub mod Slices
 pub mod BitLaws
+pub mod Adding

@@ -58,7 +58,10 @@ module _ (b : List ℕ) (p len : ℕ) (few : len ≤ 1023) (room : p + (len + 7)
       let i : len / 8 ≡ length xs - 1 = omega (arith, count) in
       let j : length xs - 1 < length xs = omega (arith, count) in
       let o : 0 < length xs = omega arith in
-      rw (q ∙ laid, i, List·getD-append xs (replicate (128 - (len + 7) / 8) 0) 0 (length xs - 1) j, set-append-left xs (replicate (128 - (len + 7) / 8) 0) (length xs - 1) (getD xs (length xs - 1) 0 / 2 ^ (8 - len % 8) * 2 ^ (8 - len % 8)) j, mask-set (8 - len % 8) xs o, e, length-mask (8 - len % 8) xs, count)
+      let v = getD xs (length xs - 1) 0 / 2 ^ (8 - len % 8) * 2 ^ (8 - len % 8) in
+      let g = List·getD-append xs (replicate (128 - (len + 7) / 8) 0) 0 (length xs - 1) j in
+      let t = set-append-left xs (replicate (128 - (len + 7) / 8) 0) (length xs - 1) v j in
+      rw (q ∙ laid, i, g, t, mask-set (8 - len % 8) xs o, e, length-mask (8 - len % 8) xs, count)
 
 -- the block before its last byte is stored again: zeros, and the bytes of the data put at the front
 pub copied : (b o z m : List ℕ) (p len end : ℕ) → length o ≡ 128 → z ≡ replicate (length o) 0 → end ≡ p + (len + 7) / 8 → m ≡ puts z 0 (take (end - p) (drop p b))

@@ -54,9 +54,6 @@ cropped-marked : (n t : ℕ) (l : List ℕ) → 0 < n → n ≤ length l → t �
 unfolding cropped
 cropped-marked n t l h g q w z = go (eqb t 7) refl
   where
-    fact : (zeros 8 (lastOf (take n l)) ≤ 7) × (lastOf (take n l) - 2 ^ zeros 8 (lastOf (take n l)) ≡ lastOf (take n l) / 2 ^ (zeros 8 (lastOf (take n l)) + 1) * 2 ^ (zeros 8 (lastOf (take n l)) + 1))
-    fact = last-bit (lastOf (take n l)) w z
-
     go : (s : Bool) → eqb t 7 ≡ s → mask ((8 - (8 * n - 1 - t) % 8) % 8) (take ((8 * n - 1 - t + 7) / 8) l) ≡ unmark t (take n l)
     go true s =
         let t7 = eqb-true t 7 s in
@@ -65,6 +62,7 @@ cropped-marked n t l h g q w z = go (eqb t 7) refl
         rw (e, f, t7) (mask-none (take (n - 1) l) ∙ sym (unmark-last (take n l) ∙ rw (length-take-le n l g) (take-take (n - 1) n l (omega arith))))
     go false s =
         let t7 : (t ≡ 7 → ⊥) = eqb-false t 7 s in
+        let fact = last-bit (lastOf (take n l)) w z in
         let t8 : t ≤ 7 = omega (arith, fact .0) in
         let o : (8 * n - 1 - t) / 8 ≡ n - 1 = omega arith in
         let e : (8 - (8 * n - 1 - t) % 8) % 8 ≡ t + 1 = omega arith in

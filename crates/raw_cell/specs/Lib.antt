@@ -5,3 +5,4 @@ pub mod Data
 pub mod Block
 pub mod Tie
 pub mod Bounds
+pub mod Examples

@@ -5,6 +5,7 @@ use mathlib.Core.List.{List}
 use Rattle.scheme.specs.Res.{Res, bad, ok}
 use Rattle.scheme.specs.Bag.{Past}
 use Rattle.raw_cell.specs.Frame.{frame}
+use Rattle.raw_cell.specs.Block.{blockAt}
 use Rattle.raw_cell.specs.declared.DataAnswer.{DataAnswer}
 use Rattle.raw_cell.specs.declared.DataAnswer.the-variants.{Bits, Refused as NoBits}
 use Rattle.raw_cell.specs.declared.RawCell.{RawCell}
@@ -25,6 +26,9 @@ paper-inj (Cell f) (Refused s) e = cc
 paper-inj (Refused r) (Cell g) e = cc
 paper-inj (Refused r) (Refused s) e = cc
 
--- one answer
+-- one answer, and one block
 pub raw-cell-unique : (b : List ℕ) (size p : ℕ) (r s : RawCellAnswer) → paperOf r ≡ frame b size p → paperOf s ≡ frame b size p → r ≡ s
 raw-cell-unique b size p r s e f = paper-inj r s (e ∙ sym f)
+
+pub copy-data-unique : (b : List ℕ) (p len : ℕ) (o q : List ℕ) → o ≡ blockAt b p len → q ≡ blockAt b p len → o ≡ q
+copy-data-unique b p len o q e f = e ∙ sym f

@@ -11,11 +11,13 @@ use Rattle.scheme.specs.Res.{Res, bad, ok, then, check, refusal}
 use Rattle.scheme.specs.Bits.{cropped}
 use Rattle.scheme.specs.Bytes.{chunk, field, fields}
 use Rattle.scheme.specs.Cells.{Cell}
+use Rattle.scheme.specs.Memory.{blockOf}
 use Rattle.scheme.specs.Bag.{Past, Bits, bits, hashes, rawCell}
 use Rattle.bits.specs.Field.{byteAt, skipFieldsAt, numbersAt}
 use Rattle.bits.specs.Laws.{chunk-cases, skip-whole, skip-cut, skip-fields-end, fields-are}
 use Rattle.raw_cell.specs.Frame.{bitsIn, dataAt, bodyAt, frame}
 use Rattle.raw_cell.specs.Data.{bits-at}
+use Rattle.raw_cell.specs.Block.{blockAt}
 use Rattle.raw_cell.specs.declared.RawCell.{RawCell}
 
 -- the cell that a frame in the bytes b stands for, in a bag whose references take `size` bytes
@@ -26,6 +28,10 @@ cellIn b size f = record {
   bytes = cropped (f .bits) (drop (f .body) b);
   refs = numbersAt b size (f .refs) (f .links);
 }
+
+-- the block that its data is copied to is the block of the cell
+pub block-cell : (b : List ℕ) (size : ℕ) (f : RawCell) → blockAt b (f .body) (f .bits) ≡ blockOf (cellIn b size f)
+block-cell b size f = refl
 
 abbrev pub cellPast : List ℕ → ℕ → RawCell → Past Cell
 cellPast b size f = record { it = cellIn b size f; next = f .next }
@@ -61,7 +67,8 @@ module _ (b : List ℕ) (size : ℕ) where
   links-tie d1 len p links = rw (fields-are b size (d1 % 8) links) (go (skipFieldsAt b size (d1 % 8) links) refl)
     where
       go : (x : Res ℕ) → skipFieldsAt b size (d1 % 8) links ≡ x
-          → then (then x λ q. ok (numbersAt b size (d1 % 8) links)) (λ rs. ok (record { it = record { exotic = d1 / 8 % 2; len = len; bytes = cropped len (drop p b); refs = rs }; next = links + d1 % 8 * size }))
+          → then (then x λ q. ok (numbersAt b size (d1 % 8) links))
+          (λ rs. ok (record { it = record { exotic = d1 / 8 % 2; len = len; bytes = cropped len (drop p b); refs = rs }; next = links + d1 % 8 * size }))
           ≡ cells (then x λ next. ok (record { exotic = d1 / 8 % 2; refs = d1 % 8; bits = len; body = p; links = links; next = next }))
       go (bad r) e = refl
       go (ok q) e = rw (skip-fields-end b size (d1 % 8) links q e .0)
@@ -102,7 +109,9 @@ module _ (b : List ℕ) (size : ℕ) where
 
         tested : (d1 : ℕ) (t : Bool)
             → (then (check t (refusal 11 p)) λ _. then (field b (p + 1) 1) λ d2. rawBody b size d1 d2 (p + 2))
-            ≡ cells (then (check t (refusal 11 p)) λ _. then (then (field b (p + 1) 1) λ x. ok (record { it = x; next = p + 1 + 1 })) λ (d2 : Past ℕ). bodyAt b size d1 (d2 .it) (d2 .next))
+            ≡ cells
+            (then (check t (refusal 11 p)) λ _.
+            then (then (field b (p + 1) 1) λ x. ok (record { it = x; next = p + 1 + 1 })) λ (d2 : Past ℕ). bodyAt b size d1 (d2 .it) (d2 .next))
         tested d1 false = refl
         tested d1 true = second d1 (field b (p + 1) 1)
 

@@ -1,6 +1,6 @@
 -- Demand 2, the grammar: a bag is accepted exactly when its bytes are a text of the scheme.
 -- Assumes nothing.
-use mathlib.Core.Path.{_≡_, refl, sym, ap, _∙_}
+use mathlib.Core.Path.{_≡_}
 use mathlib.Core.Logic.{_↔_}
 use Prim.Native.Nat.{ℕ, _-_, _≤_}
 use mathlib.Core.Bool.{Bool, true}
@@ -9,11 +9,11 @@ use lib.ListN.{length, getD}
 use lib.Dec.{leb}
 use borrow.Author.Tests.{leb-true, le-leb}
 use Rattle.scheme.specs.Refusals.{FULL}
-use Rattle.scheme.specs.Res.{Res, ok, then, check, refusal}
+use Rattle.scheme.specs.Res.{ok, check, refusal}
 use Rattle.scheme.specs.Cells.{Cell}
 use Rattle.scheme.specs.Bag.{Bag, bag, Got, Counts, read, load}
 use Rattle.scheme.specs.Memory.{capacity, cellsOf, sound, held}
-use Rattle.scheme.specs.Calls.{readOut, reading}
+use Rattle.scheme.specs.Calls.{reading}
 use Rattle.laws.specs.Accept.{then-use, check-inv}
 use Rattle.theorems.specs.MeaningLaws.{call-taken}
 use Rattle.theorems.specs.Grammar.{Small, Says}

@@ -1,20 +1,20 @@
 -- Cut replies: no front of a bag is taken for a bag. It is the reason for the order.
 -- Assumes nothing.
-use mathlib.Core.Path.{_≡_, refl, sym, ap, _∙_}
-use Prim.Native.Nat.{ℕ, zero, suc, _+_, _≤_, _<_}
+use mathlib.Core.Path.{_≡_, refl, sym}
+use Prim.Native.Nat.{ℕ, _≤_, _<_}
 use native.Mathlib.Omega.{arith}
-use mathlib.Core.Bool.{Bool, true, false, cond}
-use mathlib.Core.List.{List, [], _∷_, _++_}
+use mathlib.Core.Bool.{Bool, true, false}
+use mathlib.Core.List.{List, []}
 use lib.ListN.{length, take}
 use lib.Seq.{take-length}
 use lib.Dec.{leb}
 use borrow.Author.Tests.{leb-true, leb-false}
-use Rattle.scheme.specs.Refusals.{CUT, FULL}
-use Rattle.scheme.specs.Res.{Res, bad, ok, then, check, refusal}
+use Rattle.scheme.specs.Refusals.{CUT}
+use Rattle.scheme.specs.Res.{Res, bad, ok, then, refusal}
 use Rattle.scheme.specs.Cells.{Cell}
-use Rattle.scheme.specs.Bag.{Bag, bag, Got, Counts, read, load}
+use Rattle.scheme.specs.Bag.{Bag, bag, Got, Counts, read}
 use Rattle.scheme.specs.Memory.{capacity, held}
-use Rattle.scheme.specs.Calls.{ReadOut, readOut, reading, zeroed}
+use Rattle.scheme.specs.Calls.{readOut, reading, zeroed}
 use Rattle.laws.specs.Accept.{then-use}
 use Rattle.theorems.specs.Places.{total, cutPlace, NotWhole, bagFields}
 use Rattle.theorems.specs.CutLaws.{bag-read, fields-end, bag-cut, not-whole}

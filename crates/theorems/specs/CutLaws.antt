@@ -1,16 +1,15 @@
 -- The reading of an accepted bag, step by step, and of a front of it: it refuses CUT at the first field that is not whole.
 -- Assumes nothing.
-use mathlib.Core.Path.{_≡_, refl, sym, ap, _∙_}
-use mathlib.Core.Logic.{_⊎_, inl, inr}
-use Prim.Native.Nat.{ℕ, zero, suc, _+_, _-_, _*_, _/_, _%_, _≤_, _<_}
+use mathlib.Core.Path.{_≡_, refl}
+use Prim.Native.Nat.{ℕ, _+_, _-_, _*_, _≤_, _<_}
 use native.Mathlib.Omega.{arith}
 use mathlib.Core.Bool.{Bool, true, false, cond, not, _||_}
 use mathlib.Core.List.{List, [], _∷_, _++_, append-assoc}
 use lib.ListN.{length, take, replicate}
 use lib.Dec.{leb, eqb}
-use borrow.Author.Tests.{leb-true, leb-false, le-leb, lt-leb}
+use borrow.Author.Tests.{leb-true, leb-false}
 use Rattle.scheme.specs.Refusals.{CUT, CRC, EXTRA}
-use Rattle.scheme.specs.Res.{Res, bad, ok, then, check, refusal}
+use Rattle.scheme.specs.Res.{bad, ok, check, refusal}
 use Rattle.scheme.specs.Bytes.{chunk, fields, unle}
 use Rattle.scheme.specs.Crc.{crcOf}
 use Rattle.scheme.specs.Cells.{Cell}

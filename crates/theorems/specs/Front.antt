@@ -1,12 +1,10 @@
 -- The front of a text of bytes: what is read of it is what is read of the whole text, or a field of it is not whole.
 -- Assumes nothing.
 use mathlib.Core.Path.{_≡_, refl, sym, ap, _∙_}
-use mathlib.Core.Logic.{_⊎_, inl, inr}
 use Prim.Native.Nat.{ℕ, zero, suc, _+_, _-_, _*_, _/_, _%_, _≤_, _<_}
-use native.Mathlib.Nat.{not-suc-le-zero}
 use native.Mathlib.Omega.{arith}
 use mathlib.Core.Bool.{Bool, true, false, cond}
-use mathlib.Core.List.{List, [], _∷_, _++_, append-assoc, append-nil}
+use mathlib.Core.List.{List, [], _∷_, _++_}
 use lib.ListN.{length, take, drop, replicate}
 use lib.Seq.{length-take-le, take-take}
 use lib.Dec.{eqb, leb}
@@ -14,16 +12,15 @@ use borrow.Author.Tests.{leb-true, leb-false, le-leb, lt-leb}
 use Rattle.scheme.specs.Refusals.{CUT}
 use Rattle.scheme.specs.Res.{Res, bad, ok, then, check, refusal}
 use Rattle.scheme.specs.Bytes.{unbe, chunk, field, fields}
-use Rattle.scheme.specs.Bag.{hashes, bits, rawCell, rawCells, Past, Header, header, numbers, rootList, index, checksum, readScratch}
-use Rattle.scheme.specs.Layout.{Layout, layout, tagOk}
+use Rattle.scheme.specs.Bag.{hashes, bits, rawCell, rawCells, Past, Header, header, numbers, checksum, readScratch}
+use Rattle.scheme.specs.Layout.{layout, tagOk}
 use Rattle.scheme.specs.Limits.{maxCells, maxRefs}
 use Rattle.scheme.specs.Refusals.{SIZE, OFFSET, COUNTS, CELLS, SCRATCH, ROOTROOM, REFS, CRC}
 use Rattle.scheme.specs.Crc.{crcOf}
 use Rattle.scheme.specs.Bytes.{unle}
 use Rattle.scheme.specs.Cells.{Cell}
-use Rattle.laws.specs.Tests.{bool-cases}
 use Rattle.laws.specs.Accept.{then-use, check-inv}
-use Rattle.theorems.specs.Places.{total, cutPlace, numberAt, sizeIn, offIn, countIn, rootsIn, idxIn, crcIn, cellFields, cellsFields, frontFields}
+use Rattle.theorems.specs.Places.{total, cutPlace, numberAt, sizeIn, offIn, countIn, rootsIn, idxIn, crcIn, cellFields, cellsFields}
 
 pub total-append : (us vs : List ℕ) → total (us ++ vs) ≡ total us + total vs
 total-append [] vs = omega arith

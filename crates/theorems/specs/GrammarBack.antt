@@ -1,30 +1,28 @@
 -- A text of the grammar is accepted, and read as what it says.
 -- Assumes nothing.
-use mathlib.Core.Path.{_≡_, refl, sym, ap, _∙_, subst}
-use mathlib.Core.Logic.{_⊎_, inl, inr, _≢_}
-use Prim.Native.Nat.{ℕ, zero, suc, _+_, _-_, _*_, _/_, _%_, _^_, _≤_, _<_}
-use native.Mathlib.Nat.{not-suc-le-zero}
+use mathlib.Core.Path.{_≡_, refl, sym, ap, _∙_}
+use Prim.Native.Nat.{ℕ, suc, _+_, _-_, _*_, _/_, _%_, _^_, _≤_, _<_}
 use native.Mathlib.Omega.{arith}
 use mathlib.Core.Bool.{Bool, true, false, cond, not, _||_, _&&_}
-use mathlib.Core.List.{List, [], _∷_, _++_, map, append-assoc, append-nil, List·Memᴰ as Mem, List·Memᴰ·head as here, List·Memᴰ·tail as there}
-use lib.ListN.{length, take, drop, length-append, length-drop, length-map}
-use lib.Seq.{take-append-seam, take-at}
-use lib.Dec.{eqb, leb, ltb}
-use borrow.Author.Tests.{le-leb, lt-ltb, ne-eqb, eqb-true, eqb-false, eq-eqb, leb-true}
-use Rattle.scheme.specs.Limits.{maxCells, maxRefs}
-use Rattle.scheme.specs.Res.{Res, bad, ok, then, check, refusal}
-use Rattle.scheme.specs.Bytes.{be, le, unle, chunk, field, fields}
+use mathlib.Core.List.{List, [], _∷_, _++_, map, append-assoc, List·Memᴰ as Mem, List·Memᴰ·head as here, List·Memᴰ·tail as there}
+use lib.ListN.{length, take, length-append, length-map}
+use lib.Seq.{take-at}
+use lib.Dec.{eqb, leb}
+use borrow.Author.Tests.{le-leb, lt-ltb, ne-eqb, eqb-true, eq-eqb}
+use Rattle.scheme.specs.Limits.{maxCells}
+use Rattle.scheme.specs.Res.{ok}
+use Rattle.scheme.specs.Bytes.{be, le, unle, field, fields}
 use Rattle.scheme.specs.Bits.{bitOf, lastOf, zeros, unmark}
 use Rattle.scheme.specs.Crc.{crcOf}
 use Rattle.scheme.specs.Cells.{Cell, at}
-use Rattle.scheme.specs.Layout.{Layout, layout, tagOk, genericTag}
-use Rattle.scheme.specs.Bag.{hashes, bits, Bits, Past, rawCell, rawCells, Header, header, readScratch, numbers, rootList, index, checksum, refsOk, links, rootsOk, Bag, bag}
+use Rattle.scheme.specs.Layout.{layout, tagOk, genericTag}
+use Rattle.scheme.specs.Bag.{hashes, bits, Bits, Past, rawCell, rawCells, header, readScratch, numbers, rootList, index, checksum, refsOk, links, rootsOk, bag}
 use Rattle.scheme.specs.Write.{allBe}
 use Rattle.laws.specs.CellRound.{allBelow, allBelow-true, refs-back, length-refs}
 use Rattle.laws.specs.CellLaws.{cell-path}
 use Rattle.laws.specs.Tests.{and-left, and-right}
-use Rattle.laws.specs.Fields.{At, at-start, at-move, at-same, at-next, at-chunk, at-end, field-be, field-byte, length-be, length-le, unle-le}
-use Rattle.theorems.specs.Grammar.{Small, RawCell, onesIn, refsDescriptor, bitsDescriptor, cellText, cellsText, cellOf, RawCellOk, Head, byte4, unsigned, serialized, bagOf, Admissible}
+use Rattle.laws.specs.Fields.{At, at-start, at-move, at-same, at-next, at-chunk, field-be, field-byte, length-be, length-le, unle-le}
+use Rattle.theorems.specs.Grammar.{RawCell, onesIn, refsDescriptor, bitsDescriptor, cellText, cellsText, cellOf, RawCellOk, Head, byte4, unsigned, serialized, bagOf, Admissible}
 
 -- d1 read back
 abbrev d1Of : ℕ → ℕ → Bool → ℕ → ℕ

@@ -1,18 +1,17 @@
 -- The bytes of a bag that is accepted are a text of the grammar.
 -- Assumes nothing.
-use mathlib.Core.Path.{_≡_, refl, sym, ap, _∙_, subst}
-use mathlib.Core.Logic.{_⊎_, inl, inr, _≢_}
-use Prim.Native.Nat.{ℕ, zero, suc, _+_, _-_, _*_, _/_, _%_, _^_, _≤_, _<_}
+use mathlib.Core.Path.{_≡_, refl, sym, ap, _∙_}
+use Prim.Native.Nat.{ℕ, _+_, _-_, _*_, _/_, _%_, _^_, _≤_, _<_}
 use native.Mathlib.Omega.{arith}
-use mathlib.Core.Bool.{Bool, true, false, cond, not, _||_, _&&_}
-use mathlib.Core.List.{List, [], _∷_, _++_, map, append-assoc, append-nil, List·Memᴰ as Mem, List·Memᴰ·head as here, List·Memᴰ·tail as there}
+use mathlib.Core.Bool.{Bool, true, false, cond, not, _||_}
+use mathlib.Core.List.{List, [], _∷_, _++_, append-assoc, List·Memᴰ as Mem}
 use lib.ListN.{length, take, drop, length-append, length-drop, length-map, drop-of-length-le}
 use lib.Seq.{take-append-seam}
-use lib.Dec.{eqb, leb, ltb}
-use borrow.Author.Tests.{leb-true, eqb-true, eqb-false, not-true, ltb-true}
-use Rattle.scheme.specs.Limits.{maxCells, maxRefs}
+use lib.Dec.{eqb, leb}
+use borrow.Author.Tests.{leb-true, eqb-true}
+use Rattle.scheme.specs.Limits.{maxCells}
 use Rattle.scheme.specs.Refusals.{TAG, INDEXED, SIZE, OFFSET, COUNTS, CELLS, SCRATCH, ROOTROOM, CRC, EXTRA}
-use Rattle.scheme.specs.Res.{Res, bad, ok, then, check, refusal}
+use Rattle.scheme.specs.Res.{ok, check, refusal}
 use Rattle.scheme.specs.Bytes.{be, le, unle, chunk, field, fields}
 use Rattle.scheme.specs.Bits.{bitOf}
 use Rattle.scheme.specs.Crc.{crcOf}
@@ -23,7 +22,7 @@ use Rattle.scheme.specs.Write.{allBe}
 use Rattle.laws.specs.CellRound.{allBelow, allBelow-true}
 use Rattle.laws.specs.Accept.{then-use, check-inv, links-inv, roots-inv}
 use Rattle.theorems.specs.MeaningLaws.{linked-at}
-use Rattle.theorems.specs.Grammar.{Small, RawCell, cellsText, cellOf, RawCellOk, Head, byte4, unsigned, serialized, bagOf, Admissible, Says}
+use Rattle.theorems.specs.Grammar.{Small, cellOf, Head, byte4, unsigned, serialized, bagOf, Admissible, Says}
 use Rattle.theorems.specs.GrammarOf.{Stands, stands-then, stands-none, chunk-text, field-text, fields-text, byte-text, le-unle, CellsText, cells-text}
 
 -- the front of a text up to a place

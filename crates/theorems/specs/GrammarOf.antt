@@ -1,19 +1,18 @@
 -- What is read is written in the bytes that were read: fields, cells and the header of a text that is accepted, as texts of the grammar.
 -- Assumes nothing.
-use mathlib.Core.Path.{_≡_, refl, sym, ap, _∙_, subst}
-use mathlib.Core.Logic.{_⊎_, inl, inr, _≢_}
+use mathlib.Core.Path.{_≡_, refl, sym, ap, _∙_}
+use mathlib.Core.Logic.{_≢_}
 use Prim.Native.Nat.{ℕ, zero, suc, _+_, _-_, _*_, _/_, _%_, _^_, _≤_, _<_}
-use native.Mathlib.Nat.{not-suc-le-zero}
 use native.Mathlib.Omega.{arith}
-use mathlib.Core.Bool.{Bool, true, false, cond, not, _||_, _&&_}
+use mathlib.Core.Bool.{Bool, true, false, cond, not, _&&_}
 use mathlib.Core.List.{List, [], _∷_, _++_, map, append-assoc, append-nil, List·Memᴰ as Mem, List·Memᴰ·head as here, List·Memᴰ·tail as there}
-use lib.ListN.{length, take, drop, length-append, length-drop, take-append-drop}
-use lib.Seq.{length-take-le, drop-drop}
-use lib.Dec.{eqb, leb, ltb}
-use borrow.Author.Tests.{leb-true, eqb-true, eqb-false, not-true, ltb-true}
-use Rattle.scheme.specs.Limits.{maxCells, maxRefs}
-use Rattle.scheme.specs.Refusals.{CUT, REFS}
-use Rattle.scheme.specs.Res.{Res, bad, ok, then, check, refusal}
+use lib.ListN.{length, drop, take-append-drop}
+use lib.Seq.{drop-drop}
+use lib.Dec.{eqb, leb}
+use borrow.Author.Tests.{leb-true, eqb-true, eqb-false, not-true}
+use Rattle.scheme.specs.Limits.{maxRefs}
+use Rattle.scheme.specs.Refusals.{REFS}
+use Rattle.scheme.specs.Res.{ok, check, refusal}
 use Rattle.scheme.specs.Bytes.{be, unbe, le, unle, chunk, field, fields}
 use Rattle.scheme.specs.Bits.{bitOf, lastOf, zeros, unmark}
 use Rattle.scheme.specs.Cells.{Cell}
@@ -22,8 +21,8 @@ use Rattle.scheme.specs.Write.{allBe}
 use Rattle.laws.specs.CellRound.{allBelow, allBelow-true}
 use Rattle.laws.specs.CellLaws.{cell-path}
 use Rattle.laws.specs.Tests.{and-left, and-right}
-use Rattle.laws.specs.Accept.{then-use, check-inv, chunk-inv, fields-length}
-use Rattle.theorems.specs.Front.{chunk-is, field-is}
+use Rattle.laws.specs.Accept.{then-use, check-inv, chunk-inv}
+use Rattle.theorems.specs.Front.{chunk-is}
 use Rattle.theorems.specs.Grammar.{Small, RawCell, onesIn, refsDescriptor, bitsDescriptor, cellText, cellsText, cellOf, RawCellOk}
 
 -- ---- numbers

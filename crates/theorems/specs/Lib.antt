@@ -9,9 +9,11 @@ pub mod GrammarOf
 pub mod GrammarBag
 pub mod GrammarBack
 pub mod Completion
+pub mod TextBytes
 pub mod Accepts
 pub mod Written
 pub mod WritingLaws
 pub mod Writing
 pub mod Structure
+pub mod Samples
 pub mod Histories

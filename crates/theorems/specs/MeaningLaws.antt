@@ -1,14 +1,14 @@
 -- What reading a bag's cells into a store means, for a store that may hold a cell twice: it grows, and each bag cell has a number of its structure.
 -- Assumes nothing.
-use mathlib.Core.Path.{_≡_, refl, sym, ap, _∙_}
+use mathlib.Core.Path.{_≡_, refl, sym, _∙_}
 use mathlib.Core.Logic.{_⊎_, inl, inr, _≢_}
 use Prim.Native.Nat.{ℕ, zero, suc, _+_, _-_, _*_, _/_, _%_, _^_, _≤_, _<_}
 use native.Mathlib.Nat.{not-suc-le-zero, le-of-suc-le-suc}
 use native.Mathlib.Omega.{arith}
-use mathlib.Core.Bool.{Bool, true, false, cond}
+use mathlib.Core.Bool.{Bool, true}
 use mathlib.Core.List.{List, [], _∷_, _++_, map, List·Memᴰ as Mem, List·Memᴰ·head as here, List·Memᴰ·tail as there}
 use lib.ListN.{length, getD, drop, length-append, length-map, List·getD-append}
-use Rattle.scheme.specs.Cells.{Cell, Tree, Forest, node, none, more, blank, at, forest, unfolded, tree, find, insert, with}
+use Rattle.scheme.specs.Cells.{Cell, Tree, blank, at, forest, unfolded, tree, find, insert, with}
 use Rattle.scheme.specs.Bag.{link, put, load, Loaded, Got, Counts, read}
 use Rattle.scheme.specs.Calls.{readOut, reading}
 use Rattle.scheme.specs.Refusals.{STORE}
@@ -23,7 +23,7 @@ use Rattle.laws.specs.CellRound.{Fit}
 use Rattle.laws.specs.Wf.{WfCell, Wf}
 use Rattle.laws.specs.Lay.{wf-cells, wf-insert, sound-lay}
 use Rattle.laws.specs.RoundLaws.{cells-back}
-use Rattle.laws.specs.Records.{sound-is, sound-cells, cells-length, cells-at, cell-refs, refsAt, refs-get, refs-length, RecordOk}
+use Rattle.laws.specs.Records.{sound-is, sound-cells, cells-length, cells-at, cell-refs, refsAt, refs-get, refs-length}
 
 -- references go to lower numbers
 abbrev pub Low : List Cell → Type 0

@@ -1,20 +1,19 @@
 -- Text and depth depend on the unfolded structure alone: they are folds over it.
 -- Assumes nothing.
 use mathlib.Core.Path.{_≡_, refl, sym, ap, _∙_}
-use Prim.Native.Nat.{ℕ, zero, suc, _+_, _*_, _≤_, _<_}
+use Prim.Native.Nat.{ℕ, zero, suc, _+_, _*_, _<_}
 use native.Mathlib.Nat.{not-suc-le-zero}
 use native.Mathlib.Omega.{arith}
-use mathlib.Core.Bool.{Bool, true, false, cond}
-use mathlib.Core.List.{List, [], _∷_, _++_, map, List·Memᴰ as Mem, List·Memᴰ·head as here, List·Memᴰ·tail as there}
+use mathlib.Core.List.{List, [], _∷_, map, List·Memᴰ as Mem, List·Memᴰ·head as here, List·Memᴰ·tail as there}
 use lib.ListN.{length}
 use lib.Dec.{leb, ltb}
 use borrow.Author.Tests.{ltb-true}
 use Rattle.scheme.specs.Refusals.{STORE, SCRATCH, NOCELL}
-use Rattle.scheme.specs.Res.{Res, bad, ok, then, check, refusal}
+use Rattle.scheme.specs.Res.{Res, bad, ok, check, refusal}
 use Rattle.scheme.specs.Cells.{Cell, Tree, Forest, node, none, more, at, with, forest, unfolded, tree}
 use Rattle.scheme.specs.Fold.{value}
-use Rattle.scheme.specs.Depth.{isPruned, prunedDepth, over, depthStep, depthOf, depth}
-use Rattle.scheme.specs.Text.{textStep, textOf, sum, sizeStep, treeSize, heightStep, height, page, Page}
+use Rattle.scheme.specs.Depth.{isPruned, prunedDepth, depthStep, depth}
+use Rattle.scheme.specs.Text.{textStep, sum, sizeStep, treeSize, heightStep, page, Page}
 use Rattle.scheme.specs.Memory.{cellsOf, sound, held}
 use Rattle.scheme.specs.Calls.{lent, measuring, printing, printOut}
 use Rattle.laws.specs.Accept.{then-use, check-inv}

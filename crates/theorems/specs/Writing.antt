@@ -1,6 +1,6 @@
 -- Writing: the listing, and the bytes as the grammar's text of that listing.
 -- Assumes nothing.
-use mathlib.Core.Path.{_≡_, refl, sym, ap, _∙_, subst}
+use mathlib.Core.Path.{_≡_, refl, sym, ap, _∙_}
 use Prim.Native.Nat.{ℕ, _+_, _*_, _^_, _≤_, _<_}
 use native.Mathlib.Omega.{arith}
 use mathlib.Core.Bool.{Bool}
@@ -12,7 +12,7 @@ use Rattle.scheme.specs.Limits.{maxCells}
 use Rattle.scheme.specs.Res.{Res, bad, ok, then, check, refusal}
 use Rattle.scheme.specs.Bytes.{width}
 use Rattle.scheme.specs.Cells.{Cell, at, tree}
-use Rattle.scheme.specs.Bag.{Bag, bag, readScratch}
+use Rattle.scheme.specs.Bag.{bag, readScratch}
 use Rattle.scheme.specs.Order.{orderOf}
 use Rattle.scheme.specs.Refusals.{STORE, SCRATCH, NOCELL, NOROOM}
 use Rattle.scheme.specs.Memory.{cellsOf, sound, held}
@@ -25,9 +25,9 @@ use Rattle.laws.specs.Fields.{width-holds, width-le}
 use Rattle.laws.specs.CellRound.{Fit}
 use Rattle.laws.specs.Reach.{Listing}
 use Rattle.laws.specs.Round.{plainCells}
-use Rattle.theorems.specs.Grammar.{RawCell, RawCellOk, cellsText, cellOf, Head, serialized, bagOf, Admissible}
+use Rattle.theorems.specs.Grammar.{RawCell, RawCellOk, cellsText, cellOf, serialized, bagOf, Admissible}
 use Rattle.theorems.specs.GrammarBack.{accepted}
-use Rattle.theorems.specs.Written.{rawOf, listed, headFor}
+use Rattle.theorems.specs.Written.{listed, headFor}
 use Rattle.theorems.specs.MeaningLaws.{Low, linked-at, memory-low, memory-fit}
 use Rattle.theorems.specs.WritingLaws.{reach-held, listing, bag-linked, text-is, rawAt, raw-fine, fit-bag, cells-again, head-fine, listed-short, listed-tree, mem-map}
 
@@ -37,8 +37,9 @@ fewest n k h = (width-holds 8 n h, width-le 8 k n)
 
 -- the bytes b are the bag of the cells that the root reaches in s
 pub record Writes (has-idx has-crc : Bool) (s : List Cell) (root : ℕ) (b : List ℕ) : Type 0 where
-  -- the listing: each cell that the root reaches and no other, once, the root first, references later
+  -- the listing, in the order of the queue: each cell that the root reaches and no other, once, the root first, references later
   pub out : List ℕ
+  pub order : out ≡ orderOf s root
   pub lists : Listing s root out
   -- the bytes are the grammar's text of it, with sound links, for every reading whose limits allow so many cells and one root
   pub text : b ≡ serialized (headFor has-idx has-crc (listed s out)) (listed s out)
@@ -70,6 +71,7 @@ writes idx sum s root S F most h =
     (omega arith, omega arith) in
     record {
       out = out;
+      order = refl;
       lists = W;
       text = sym (text-is idx sum s out G);
       admissible = λ scratch room hs hr.

@@ -1,6 +1,6 @@
 -- The listing of a store that may hold a cell twice, and the bytes that are written of it.
 -- Assumes nothing.
-use mathlib.Core.Path.{_≡_, refl, sym, ap, _∙_, subst}
+use mathlib.Core.Path.{_≡_, refl, sym, ap, _∙_}
 use mathlib.Core.Logic.{_⊎_, inl, inr, _≢_}
 use Prim.Native.Nat.{ℕ, zero, suc, _+_, _-_, _*_, _/_, _%_, _^_, _≤_, _<_}
 use native.Mathlib.Nat.{not-suc-le-zero, le-of-suc-le-suc}
@@ -12,7 +12,7 @@ use lib.ListN.{length, getD, length-append, length-map}
 use lib.Dec.{eqb, ltb}
 use borrow.Author.Tests.{eqb-true, eqb-false, eq-eqb, ltb-true, not-true}
 use Rattle.laws.specs.Tests.{and-left, and-right}
-use Rattle.scheme.specs.Cells.{Cell, Tree, blank, at, forest, unfolded, tree, with}
+use Rattle.scheme.specs.Cells.{Cell, at, unfolded, tree, with}
 use Rattle.scheme.specs.Bytes.{be, le, width}
 use Rattle.scheme.specs.Bits.{bitOf, bytesFor, mark, lastOf}
 use Rattle.scheme.specs.Res.{Res, ok}
@@ -20,7 +20,7 @@ use Rattle.scheme.specs.Bag.{Past, rawCell}
 use Rattle.scheme.specs.Crc.{crcOf}
 use Rattle.scheme.specs.Layout.{genericTag}
 use Rattle.scheme.specs.Order.{kidsOf, order, orderOf, reached}
-use Rattle.scheme.specs.Write.{placeOf, bagCell, Leveled, leveled, bagCells, padded, allBe, cellBytes, allBytes, entries, body, bagBytes, write}
+use Rattle.scheme.specs.Write.{placeOf, bagCell, Leveled, leveled, bagCells, padded, allBe, cellBytes, allBytes, entries, body, bagBytes}
 use Rattle.laws.specs.Distinct.{Nodup}
 use Rattle.laws.specs.Kahn.{Good, Later, kahn}
 use Rattle.laws.specs.Reach.{Reach, itself, via, Listing, graph, reached-sound, reached-all}
@@ -31,7 +31,7 @@ use Rattle.laws.specs.CellLaws.{cell-path}
 use Rattle.laws.specs.BagRound.{length-all, Written}
 use Rattle.laws.specs.CellRound.{cell-back as stored-back}
 use Rattle.laws.specs.CellRound.{Fit, length-mark, allBelow, allBelow-true, last-mem}
-use Rattle.theorems.specs.MeaningLaws.{Low, linked-at, mem-at, forest-map, low-levels, linked-levels}
+use Rattle.theorems.specs.MeaningLaws.{Low, mem-at, forest-map, low-levels, linked-levels}
 use Rattle.theorems.specs.Grammar.{Small, Admissible, RawCell, RawCellOk, cellOf, refsDescriptor, bitsDescriptor, cellText, cellsText, Head, byte4, unsigned, serialized}
 use Rattle.theorems.specs.GrammarBack.{cell-back}
 use Rattle.theorems.specs.Written.{rawOf, listed, starts, headFor}

@@ -104,7 +104,9 @@ returns-7 c =
     let y : tie.After-layout-of = search needs in
     let e4 : tie.Else4 = search needs in
     let k : tie.After-read-byte2 = search needs in
-    off-cut _ _ _ (tagged t) (e3 .if3 .left) _ _ (byte4 b) (layoutOf (y .layout-of .result)) (y .layout-of .ensures) (e4 .if4 .left) _ (sym (k .read-byte2 .ensures) ∙ ap octetPaper (c .enum-told3 .given .1))
+    let l = layoutOf (y .layout-of .result) in
+    off-cut _ _ _ (tagged t) (e3 .if3 .left) _ _ (byte4 b) l (y .layout-of .ensures) (e4 .if4 .left) _
+    (sym (k .read-byte2 .ensures) ∙ ap octetPaper (c .enum-told3 .given .1))
 
 wide-requires : tie.Need-wide-requires
 wide-requires c κs = search needs
@@ -118,7 +120,9 @@ returns-8 c =
     let e4 : tie.Else4 = search needs in
     let o : tie.After-off = search needs in
     let w : tie.After-wide = search needs in
-    off-over _ _ _ (tagged t) (e3 .if3 .left) _ _ (byte4 b) (layoutOf (y .layout-of .result)) (y .layout-of .ensures) (e4 .if4 .left) _ _ (offset o) (omega (arith, w .wide .ensures, c .if5 .taken))
+    let l = layoutOf (y .layout-of .result) in
+    off-over _ _ _ (tagged t) (e3 .if3 .left) _ _ (byte4 b) l (y .layout-of .ensures) (e4 .if4 .left) _ _ (offset o)
+    (omega (arith, w .wide .ensures, c .if5 .taken))
 
 wide-requires-2 : tie.Need-wide-requires-2
 wide-requires-2 c κs = search needs
@@ -133,7 +137,10 @@ returns-9 c =
     let o : tie.After-off = search needs in
     let w : tie.After-wide = search needs in
     let e5 : tie.Else5 = search needs in
-    rw (c .wide2 .ensures) (flags-known _ _ _ (tagged t) (e3 .if3 .left) _ _ (byte4 b) (layoutOf (y .layout-of .result)) (y .layout-of .ensures) (e4 .if4 .left) _ _ (offset o) (omega (arith, w .wide .ensures, e5 .if5 .left)))
+    let l = layoutOf (y .layout-of .result) in
+    rw (c .wide2 .ensures)
+    (flags-known _ _ _ (tagged t) (e3 .if3 .left) _ _ (byte4 b) l (y .layout-of .ensures) (e4 .if4 .left) _ _ (offset o)
+    (omega (arith, w .wide .ensures, e5 .if5 .left)))
 
 pub read-flags-spec : {M : Type 1} → statement M
 read-flags-spec =

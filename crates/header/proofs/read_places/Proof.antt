@@ -49,7 +49,7 @@ total d = let k : tie.After-skip-bytes = search needs in sym (k .skip-bytes .ens
 roots : (d : tie.After-index) →
     let s : tie.Start = search needs in
     let e : tie.After-list = search needs in
-    skipFieldsAt (now (s .args .bytes)) (s .args .f .size) (s .args .c .roots) (e .list .given .0 .0) ≡ ok (d .index .given .0 .0)
+    skipFieldsAt (now (s .args .bytes)) (s .args .f .layout .size) (s .args .c .roots) (e .list .given .0 .0) ≡ ok (d .index .given .0 .0)
 roots d = let k : tie.After-skip-fields = search needs in sym (k .skip-fields .ensures) ∙ ap skipPaper (d .index .given .1)
 
 returns : tie.Need-returns

@@ -1,0 +1,4 @@
+pub mod Search
+pub mod Paper
+pub mod Kept
+pub mod Unique

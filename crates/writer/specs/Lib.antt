@@ -1,0 +1,4 @@
+pub mod Paper
+pub mod Bytes
+pub mod Bag
+pub mod Unique
