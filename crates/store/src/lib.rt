@@ -303,8 +303,8 @@ fn flag_of(exotic: bool) -> u32
     0
 }
 
-// Adds a cell to a store that is known to be sound.
-fn add_in(count: &mut usize, table: &mut [u32], bytes: &mut [u8], cell: CellBuilder) -> Added
+// Interface between crates: adds a cell to a store that is known to be sound.
+pub fn add_in(count: &mut usize, table: &mut [u32], bytes: &mut [u8], cell: CellBuilder) -> Added
     requires { ⌜ sound (now count) (now table) (now bytes) ≡ true ⌝ }
     ensures { λ r. ⌜ Adds (now (count .entry)) (now (table .entry)) (now (bytes .entry)) (builderOf cell) r (now (count .exit)) (now (table .exit)) (now (bytes .exit)) ⌝ }
 {
