@@ -1,9 +1,10 @@
 -- What max_depth answers in the definitions' words, what it promises, and that the promise leaves one outcome.
-use mathlib.Core.Path.{_≡_, refl, sym, _∙_}
+use mathlib.Core.Path.{_≡_, refl}
 use Prim.Native.Nat.{ℕ}
 use mathlib.Core.List.{List}
 use Rattle.scheme.specs.Res.{Res, bad, ok}
 use Rattle.scheme.specs.Calls.{measuring}
+use Rattle.laws.specs.OneAnswer.{one-answer, one-content}
 use Rattle.depth.specs.declared.Depth.{Depth}
 use Rattle.depth.specs.declared.Depth.the-variants.{Levels, Refused}
 
@@ -24,4 +25,4 @@ pub record Measures (n : ℕ) (t d : List ℕ) (i : ℕ) (s : List ℕ) (r : Dep
 
 -- two outcomes that keep the promise are equal
 pub unique : (n : ℕ) (t d : List ℕ) (i : ℕ) (s : List ℕ) (r q : Depth) (s₁ s₂ : List ℕ) → Measures n t d i s r s₁ → Measures n t d i s q s₂ → (r ≡ q) × (s₁ ≡ s₂)
-unique n t d i s r q s₁ s₂ a b = (paper-inj r q (a .answer ∙ sym (b .answer)), a .scratch ∙ sym (b .scratch))
+unique n t d i s r q s₁ s₂ a b = (one-answer paperOf paper-inj r q (a .answer) (b .answer), one-content (a .scratch) (b .scratch))

@@ -1,11 +1,12 @@
 -- What printing answers in the definitions' words, what it promises, and that the promise leaves one outcome.
-use mathlib.Core.Path.{_≡_, refl, sym, ap, _∙_}
+use mathlib.Core.Path.{_≡_, refl, ap}
 use Prim.Native.Nat.{ℕ}
 use mathlib.Core.List.{List}
 use lib.ListN.{length}
 use Rattle.scheme.specs.Res.{Res, bad, ok, then}
 use Rattle.scheme.specs.Text.{Page, page}
 use Rattle.scheme.specs.Calls.{Printed, lent, printing}
+use Rattle.laws.specs.OneAnswer.{one-answer, one-content}
 use Rattle.text.specs.declared.Printed.{Printed as Out}
 use Rattle.text.specs.declared.Text.{Text}
 use Rattle.text.specs.declared.Text.the-variants.{Printed as Done, Refused}
@@ -45,4 +46,4 @@ pub record Prints (n : ℕ) (t d : List ℕ) (i budget : ℕ) (s o : List ℕ) (
 pub unique : (n : ℕ) (t d : List ℕ) (i budget : ℕ) (s o : List ℕ) (r q : Text) (s₁ s₂ o₁ o₂ : List ℕ)
     → Prints n t d i budget s o r s₁ o₁ → Prints n t d i budget s o q s₂ o₂ → (r ≡ q) × (s₁ ≡ s₂) × (o₁ ≡ o₂)
 unique n t d i budget s o r q s₁ s₂ o₁ o₂ a b =
-    (paper-inj r q (a .answer ∙ sym (b .answer)), a .scratch ∙ sym (b .scratch), a .out ∙ sym (b .out))
+    (one-answer paperOf paper-inj r q (a .answer) (b .answer), one-content (a .scratch) (b .scratch), one-content (a .out) (b .out))

@@ -1,0 +1,4 @@
+pub mod Answers
+pub mod Outcomes
+pub mod Promises
+pub mod Unique
