@@ -50,7 +50,7 @@ mem-take (suc k) [] x m = m
 mem-take (suc k) (y ∷ ys) x (here e) = here e
 mem-take (suc k) (y ∷ ys) x (there m) = there (mem-take k ys x m)
 
-mem-drop : (k : ℕ) (l : List ℕ) (x : ℕ) → Mem x (drop k l) → Mem x l
+pub mem-drop : (k : ℕ) (l : List ℕ) (x : ℕ) → Mem x (drop k l) → Mem x l
 mem-drop zero l x m = m
 mem-drop (suc k) [] x m = m
 mem-drop (suc k) (y ∷ ys) x m = there (mem-drop k ys x m)

@@ -11,10 +11,10 @@ pub mod Fields
 pub mod CellRound
 pub mod Accept
 pub mod BagRound
-pub mod Demand3
+pub mod WrittenBack
 pub mod Named
 pub mod Add
-pub mod History
+pub mod Kept
 pub mod Wf
 pub mod RoundLaws
 pub mod Records

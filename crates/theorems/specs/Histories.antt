@@ -25,16 +25,17 @@ use Rattle.scheme.specs.Calls.{StoreOut, ReadOut, WriteOut, onto, zeroed, clear
 use Rattle.laws.specs.Accept.{Small, then-use, check-inv}
 use Rattle.laws.specs.Add.{Typed}
 use Rattle.laws.specs.CellRound.{Fit}
-use Rattle.laws.specs.History.{Kept, kept-nil, write-inv, Op, clears, adds, reads, TypedOp, addedStore, gotStore, kept-after}
-use Rattle.laws.specs.History as lists
+use Rattle.laws.specs.Kept.{Kept, kept-nil, write-inv, Op, clears, adds, reads, TypedOp, addedStore, gotStore, kept-after}
+use Rattle.laws.specs.Kept as lists
 use Rattle.laws.specs.Reach.{Listing, listing}
-use Rattle.laws.specs.Demand3.{written-reads-back}
+use Rattle.laws.specs.WrittenBack.{written-reads-back}
 use Rattle.laws.specs.Unique.{unique}
 use Rattle.laws.specs.Wf.{Wf}
 use Rattle.laws.specs.RoundLaws.{cells-back, rows-length}
 use Rattle.laws.specs.Tests.{and-left}
 use Rattle.laws.specs.Lay.{sound-lay}
 use Rattle.laws.specs.Records.{sized-is}
+use Rattle.theorems.specs.MeaningLaws.{fit-wf}
 
 -- a store's memory
 pub record Memory : Type 0 where
@@ -109,42 +110,8 @@ pub record Demand3 (m : Memory) : Type 0 where
 abbrev lay : ℕ → List Cell → Memory
 lay cap s = record { count = length s; table = layTable cap s; bytes = layBytes cap s }
 
-mem-at : (l : List ℕ) (k : ℕ) → k < length l → Mem (getD l k 0) l
-mem-at [] k h = absurd (not-suc-le-zero h)
-mem-at (x ∷ xs) zero h = here refl
-mem-at (x ∷ xs) (suc k) h = there (mem-at xs k (omega arith))
-
-last-at : (l : List ℕ) (k : ℕ) → length l ≡ suc k → lastOf l ≡ getD l k 0
-last-at [] k e = absurd (omega arith)
-last-at (x ∷ []) zero e = refl
-last-at (x ∷ []) (suc k) e = absurd (omega arith)
-last-at (x ∷ y ∷ ys) zero e = absurd (omega arith)
-last-at (x ∷ y ∷ ys) (suc k) e = last-at (y ∷ ys) k (omega arith)
-
--- no bit is set past the length, in the byte that the length ends in
-clean-tail : (c : Cell) → Fit c → getD (c .bytes) (c .len / 8) 0 % 2 ^ ((8 - c .len % 8) % 8) ≡ 0
-clean-tail c F = go (c .len % 8) refl
-  where
-    go : (r : ℕ) → c .len % 8 ≡ r → getD (c .bytes) (c .len / 8) 0 % 2 ^ ((8 - c .len % 8) % 8) ≡ 0
-    go zero e = rw e (omega arith)
-    go (suc r) e =
-        let q : (8 - c .len % 8) % 8 ≡ 8 - c .len % 8 = omega (arith, e) in
-        let n : length (c .bytes) ≡ suc (c .len / 8) = F .many ∙ omega (arith, e) in
-        rw (q, ← last-at (c .bytes) (c .len / 8) n) (F .clean (λ z. omega (arith, z, e)))
-
 wf-kept : (cap : ℕ) (s : List Cell) → Kept cap s → Wf s
-wf-kept cap s K = record {
-  each = λ i h.
-      let F = K .fit i h in
-      record {
-        flag = F .flag;
-        bits = F .few;
-        count = F .arity;
-        below = λ k l. K .sound .low i h (getD ((at s i) .refs) k 0) (mem-at ((at s i) .refs) k l);
-        size = F .many;
-        tail = clean-tail (at s i) F;
-      };
-}
+wf-kept cap s K = record { each = λ i h. fit-wf i (at s i) (K .fit i h) (K .sound .low i h) }
 
 -- the front of an output that was written to
 front : (xs out y : List ℕ) (len : ℕ) → y ≡ onto xs out → len ≡ length xs → take len y ≡ xs

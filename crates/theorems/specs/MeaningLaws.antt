@@ -15,7 +15,8 @@ use Rattle.scheme.specs.Refusals.{STORE}
 use Rattle.scheme.specs.Bits.{bytesFor, lastOf}
 use Rattle.scheme.specs.Res.{Res, bad, ok, then, check, refusal}
 use Rattle.scheme.specs.Memory.{cellAt, cellsOf, sound, held, layTable, layBytes, capacity}
-use Rattle.laws.specs.Accept.{Small, then-use, check-inv, mem-take}
+use Rattle.laws.specs.Accept.{Small, then-use, check-inv, mem-take, mem-drop}
+use Rattle.laws.specs.Kept.{fit-with}
 use Rattle.laws.specs.CellLaws.{cell-path}
 use Rattle.laws.specs.Unique.{Below, find-cases, insert-old, insert-new, place-cases, at-old, at-new}
 use Rattle.laws.specs.Meaning.{Linked, Extends, renamed, extends-refl, extends-insert, insert-at, insert-held, insert-keep, insert-longer}
@@ -200,11 +201,6 @@ clean-tail c F = go (c .len % 8) refl
         let n : length (c .bytes) ≡ suc (c .len / 8) = F .many ∙ omega (arith, e) in
         rw (q, ← last-at (c .bytes) (c .len / 8) n) (F .clean (λ z. omega (arith, z, e)))
 
-mem-drop : (k : ℕ) (l : List ℕ) (x : ℕ) → Mem x (drop k l) → Mem x l
-mem-drop zero l x m = m
-mem-drop (suc k) [] x m = m
-mem-drop (suc k) (y ∷ ys) x m = there (mem-drop k ys x m)
-
 -- a cell that sound memory holds may stand in a bag
 wf-fit : (i : ℕ) (c : Cell) → WfCell i c → Small (c .bytes) → Fit c
 wf-fit i c W S = record { flag = W .flag; few = W .bits; many = W .size; small = S; clean = clean; arity = W .count }
@@ -225,7 +221,7 @@ memory-fit n t d e S x h =
     wf-fit x (at (cellsOf n t d) x) W small
 
 -- a cell that a bag may hold, with references below i, may stand at number i of a store
-fit-wf : (i : ℕ) (c : Cell) → Fit c → Below i (c .refs) → WfCell i c
+pub fit-wf : (i : ℕ) (c : Cell) → Fit c → Below i (c .refs) → WfCell i c
 fit-wf i c F B = record {
   flag = F .flag;
   bits = F .few;
@@ -234,9 +230,6 @@ fit-wf i c F B = record {
   size = F .many;
   tail = clean-tail c F;
 }
-
-fit-with : (b : Cell) (rs : List ℕ) → length rs ≡ length (b .refs) → Fit b → Fit (with b rs)
-fit-with b rs e F = record { flag = F .flag; few = F .few; many = F .many; small = F .small; clean = F .clean; arity = rw e (F .arity) }
 
 wf-load : (s : List Cell) → Low s → Wf s → (i : ℕ) (bag : List Cell) → Linked i bag → ((c : Cell) → Mem c bag → Fit c) → Wf ((load s i bag) .store)
 wf-load s S W i [] L F = W

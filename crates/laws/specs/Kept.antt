@@ -1,4 +1,4 @@
--- Demand 3: a store from its clearing through any sequence of clears, adds and reads, refused ones among them.
+-- What every store keeps to, whatever clears, adds and reads follow one another: its references go down, its cells differ and are fit, and they have room.
 -- Assumes nothing.
 use mathlib.Core.Path.{_≡_, refl, sym, ap, _∙_, subst}
 use mathlib.Core.Logic.{_⊎_, inl, inr, _↔_}
@@ -27,7 +27,6 @@ use Rattle.scheme.specs.Builder.{Builder}
 use Rattle.scheme.specs.Write.{serialized}
 use mathlib.Core.Bool.{Bool}
 use Rattle.scheme.specs.Res.{refusal}
-use Rattle.laws.specs.Demand3.{written-reads-back}
 
 abbrev pub AllFit : List Cell → Type 0
 AllFit s = (x : ℕ) → x < length s → Fit (at s x)
@@ -43,7 +42,7 @@ fit-insert s c F G = go (find-cases s c)
     go (inl h) = rw (insert-old s c h) F
     go (inr e) = rw (insert-new s c e) (λ x h. last x (place-cases s c x h))
 
-fit-with : (b : Cell) (rs : List ℕ) → length rs ≡ length (b .refs) → Fit b → Fit (with b rs)
+pub fit-with : (b : Cell) (rs : List ℕ) → length rs ≡ length (b .refs) → Fit b → Fit (with b rs)
 fit-with b rs e F = record { flag = F .flag; few = F .few; many = F .many; small = F .small; clean = F .clean; arity = rw e (F .arity) }
 
 fit-load : (s : List Cell) (i : ℕ) (bag : List Cell) → AllFit s → ((c : Cell) → Mem c bag → Fit c) → AllFit ((load s i bag) .store)
