@@ -1,18 +1,16 @@
 -- The turns of `add_each`, over plain variables. Assumes nothing.
-use Prim.Native.Nat.{ℕ, zero, suc, _+_, _*_, _/_, _-_, _<_, _≤_}
+use Prim.Native.Nat.{ℕ, suc, _+_, _*_, _/_, _-_, _<_, _≤_}
 use mathlib.Core.Path.{_≡_, refl, sym, ap, subst, _∙_}
 use mathlib.Core.Bool.{Bool, true, false, not, cond}
 use mathlib.Core.List.{List, [], _∷_, _++_, append-nil}
 use native.Mathlib.Numerals.{add-one}
-use native.Mathlib.Nat.{add-zero}
 use native.Mathlib.Omega.{arith}
-use lib.ListN.{length, getD, take, drop, set, replicate, length-take, length-drop, length-replicate}
-use lib.Seq.{length-take-le}
+use lib.ListN.{length, getD, take, drop, set, length-take, length-drop}
 use lib.Dec.{eqb, leb, ltb}
-use borrow.Author.Tests.{leb-true, ltb-true, ltb-false, lt-ltb, le-ltb}
+use borrow.Author.Tests.{ltb-true, ltb-false}
 use Rattle.scheme.specs.declared.Refusal.{Refusal}
 use Rattle.scheme.specs.Res.{Res, bad, ok, then, check, refusal}
-use Rattle.scheme.specs.Cells.{Cell, find, insert}
+use Rattle.scheme.specs.Cells.{find, insert}
 use Rattle.scheme.specs.Memory.{capacity, cellsOf, sound, held}
 use Rattle.scheme.specs.Builder.{Builder, cellIn}
 use Rattle.scheme.specs.Add.{Added, refsHeld, add}
@@ -21,12 +19,12 @@ use Rattle.laws.specs.Accept.{then-use}
 use Rattle.laws.specs.Lists.{drop-all}
 use Rattle.laws.specs.Puts.{puts, puts-start}
 use Rattle.laws.specs.Unique.{find-le}
-use Rattle.laws.specs.Records.{SoundMemory, sound-is, sound-few, cells-length}
-use Rattle.laws.specs.Adding.{Holds, adding-holds}
-use Rattle.store.specs.Paper.{Adds, addedPaper}
+use Rattle.laws.specs.Records.{sound-few, cells-length}
+use Rattle.laws.specs.Adding.{adding-holds}
+use Rattle.store.specs.Paper.{Adds}
 use Rattle.store.specs.declared.Added.{Added as Answer}
 use Rattle.store.specs.declared.Added.the-variants.{Number, Refused}
-use Rattle.add_many.specs.Many.{lesserOf, cellsIn, builderAt, Turns, all, stop, ManyOut, afterOne, many, manyPaper, AddsMany}
+use Rattle.add_many.specs.Many.{lesserOf, cellsIn, builderAt, stop, ManyOut, afterOne, many, manyPaper, AddsMany}
 use Rattle.add_many.specs.declared.AddedMany.{AddedMany}
 use Rattle.add_many.specs.declared.AddedMany.the-variants as added
 
@@ -43,7 +41,14 @@ block-copied ds b x p h l e =
     ∙ append-nil (take 128 (drop p ds))
 
 pub builder-is : (hs ds : List ℕ) (i len m : ℕ) (x : List ℕ) → x ≡ take 128 (drop (i * 128) ds) → len ≡ getD hs (i * 7 + 1) 0 → m ≡ getD hs (i * 7 + 2) 0
-    → record { exotic = not (eqb (getD hs (i * 7) 0) 0); len = len; bytes = x; count = m; refs = getD hs (i * 7 + 3) 0 ∷ getD hs (i * 7 + 4) 0 ∷ getD hs (i * 7 + 5) 0 ∷ getD hs (i * 7 + 6) 0 ∷ [] } ≡ builderAt hs ds i
+    → record {
+      exotic = not (eqb (getD hs (i * 7) 0) 0);
+      len = len;
+      bytes = x;
+      count = m;
+      refs = getD hs (i * 7 + 3) 0 ∷ getD hs (i * 7 + 4) 0 ∷ getD hs
+          (i * 7 + 5) 0 ∷ getD hs (i * 7 + 6) 0 ∷ [];
+    } ≡ builderAt hs ds i
 unfolding builderAt
 builder-is hs ds i len m x xe le me = rw (xe, le, me)
 
@@ -96,7 +101,8 @@ module _ (hs ds : List ℕ) (k i n : ℕ) (t d xs : List ℕ) (X : ManyOut) (h :
   left : k - i ≡ suc (k - (i + 1))
   left = omega arith
 
-  turn : afterOne i (adding n t d (builderAt hs ds i)) xs (λ m. many hs ds (k - (i + 1)) (suc i) (o .count) (o .table) (o .bytes) (set xs i m)) (adding n t d (builderAt hs ds i) .answer) ≡ X
+  turn : afterOne i (adding n t d (builderAt hs ds i)) xs (λ m. many hs ds (k - (i + 1)) (suc i) (o .count) (o .table) (o .bytes) (set xs i m))
+      (adding n t d (builderAt hs ds i) .answer) ≡ X
   unfolding many
   turn = rw left at q
 
@@ -116,13 +122,15 @@ module _ (hs ds : List ℕ) (k i n : ℕ) (t d xs : List ℕ) (X : ManyOut) (h :
     -- a number is that of a record
     pub turn-small : sound n t d ≡ true → m ≤ 4096
     unfolding adding held
-    turn-small s = go (add (capacity t) (cellsOf n t d) (builderAt hs ds i)) refl (a .answer ∙ ap (λ (b : Bool). (addOut n t d (then (then (check b (refusal 1 0)) (λ _. ok (cellsOf n t d))) λ c. add (capacity t) c (builderAt hs ds i))) .answer) s)
+    turn-small s = go (add (capacity t) (cellsOf n t d) (builderAt hs ds i)) refl (a .answer ∙ ap
+        (λ (b : Bool). (addOut n t d (then (then (check b (refusal 1 0)) (λ _. ok (cellsOf n t d))) λ c. add (capacity t) c (builderAt hs ds i))) .answer) s)
       where
         go : (r : Res Added) → add (capacity t) (cellsOf n t d) (builderAt hs ds i) ≡ r → ok m ≡ (addOut n t d r) .answer → m ≤ 4096
         go (bad b) e z = absurd (let y : _≡_ {A = ℕ} 0 1 = cc in omega arith)
         go (ok x) e z = let y : m ≡ x .number = cc in omega (arith, number-small (capacity t) n t d (builderAt hs ds i) x e s)
 
-  pub turn-stop : (r : Refusal) (n′ : ℕ) (t′ d′ : List ℕ) → Adds n t d (builderAt hs ds i) (Refused r) n′ t′ d′ → record { answer = stop i r; count = n′; table = t′; bytes = d′; numbers = xs } ≡ X
+  pub turn-stop : (r : Refusal) (n′ : ℕ) (t′ d′ : List ℕ) → Adds n t d (builderAt hs ds i)
+      (Refused r) n′ t′ d′ → record { answer = stop i r; count = n′; table = t′; bytes = d′; numbers = xs } ≡ X
   turn-stop r n′ t′ d′ a =
       ap (λ (x : ℕ). record { answer = stop i r; count = x; table = t′; bytes = d′; numbers = xs }) (a .count)
       ∙ ap (λ (x : List ℕ). record { answer = stop i r; count = o .count; table = x; bytes = d′; numbers = xs }) (a .table)
@@ -133,7 +141,8 @@ module _ (hs ds : List ℕ) (k i n : ℕ) (t d xs : List ℕ) (X : ManyOut) (h :
 -- ---- the ways out
 
 module _ (hs ds : List ℕ) (k n : ℕ) (t d xs : List ℕ) where
-  pub many-is : (r : AddedMany) (n′ : ℕ) (t′ d′ xs′ : List ℕ) → record { answer = manyPaper r; count = n′; table = t′; bytes = d′; numbers = xs′ } ≡ many hs ds k 0 n t d xs → AddsMany hs ds k n t d xs r n′ t′ d′ xs′
+  pub many-is : (r : AddedMany) (n′ : ℕ)
+      (t′ d′ xs′ : List ℕ) → record { answer = manyPaper r; count = n′; table = t′; bytes = d′; numbers = xs′ } ≡ many hs ds k 0 n t d xs → AddsMany hs ds k n t d xs r n′ t′ d′ xs′
   many-is r n′ t′ d′ xs′ e =
       record {
         answer = ap (λ (o : ManyOut). o .answer) e;
@@ -164,5 +173,6 @@ module _ (hs ds : List ℕ) (k n : ℕ) (t d xs : List ℕ) where
       many-is (added.Refused (record { cell = 0; refusal = refusal 1 0 })) n t d xs (rw (z, s))
 
 -- by another name of k
-pub many-as : (hs ds : List ℕ) (k j n : ℕ) (t d xs : List ℕ) (r : AddedMany) (n′ : ℕ) (t′ d′ xs′ : List ℕ) → k ≡ j → AddsMany hs ds k n t d xs r n′ t′ d′ xs′ → AddsMany hs ds j n t d xs r n′ t′ d′ xs′
+pub many-as : (hs ds : List ℕ) (k j n : ℕ) (t d xs : List ℕ) (r : AddedMany) (n′ : ℕ) (t′ d′ xs′ : List ℕ) → k ≡ j → AddsMany hs ds k n t d xs r n′ t′ d′ xs′
+    → AddsMany hs ds j n t d xs r n′ t′ d′ xs′
 many-as hs ds k j n t d xs r n′ t′ d′ xs′ e a = subst (λ (m : ℕ). AddsMany hs ds m n t d xs r n′ t′ d′ xs′) e a

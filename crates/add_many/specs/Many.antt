@@ -1,14 +1,15 @@
 -- Adding many cells: the single adds, made in turn.
 use Prim.Native.Nat.{ℕ, zero, suc, _+_, _*_, _/_}
-use mathlib.Core.Path.{_≡_, refl, sym, ap, _∙_}
-use mathlib.Core.Bool.{Bool, not, cond}
+use mathlib.Core.Path.{_≡_, refl, ap}
+use mathlib.Core.Bool.{not, cond}
 use mathlib.Core.List.{List, [], _∷_}
-use lib.ListN.{length, getD, take, drop, set}
+use lib.ListN.{getD, take, drop, set}
 use lib.Dec.{eqb, ltb}
 use Rattle.scheme.specs.declared.Refusal.{Refusal}
 use Rattle.scheme.specs.Res.{Res, bad, ok}
 use Rattle.scheme.specs.Builder.{Builder}
 use Rattle.scheme.specs.Calls.{StoreOut, adding}
+use Rattle.laws.specs.OneAnswer.{one-answer, one-content}
 use Rattle.add_many.specs.declared.Stopped.{Stopped}
 use Rattle.add_many.specs.declared.AddedMany.{AddedMany}
 use Rattle.add_many.specs.declared.AddedMany.the-variants as added
@@ -81,4 +82,4 @@ pub record AddsMany (hs ds : List ℕ) (k n : ℕ) (t d xs : List ℕ) (r : Adde
 pub one-add-many : (hs ds : List ℕ) (k n : ℕ) (t d xs : List ℕ) (r₁ r₂ : AddedMany) (n₁ n₂ : ℕ) (t₁ t₂ d₁ d₂ xs₁ xs₂ : List ℕ)
     → AddsMany hs ds k n t d xs r₁ n₁ t₁ d₁ xs₁ → AddsMany hs ds k n t d xs r₂ n₂ t₂ d₂ xs₂ → (r₁ ≡ r₂) × (n₁ ≡ n₂) × (t₁ ≡ t₂) × (d₁ ≡ d₂) × (xs₁ ≡ xs₂)
 one-add-many hs ds k n t d xs r₁ r₂ n₁ n₂ t₁ t₂ d₁ d₂ xs₁ xs₂ a b =
-    (many-inj r₁ r₂ (a .answer ∙ sym (b .answer)), a .count ∙ sym (b .count), a .table ∙ sym (b .table), a .bytes ∙ sym (b .bytes), a .numbers ∙ sym (b .numbers))
+    (one-answer manyPaper many-inj r₁ r₂ (a .answer) (b .answer), one-content (a .count) (b .count), one-content (a .table) (b .table), one-content (a .bytes) (b .bytes), one-content (a .numbers) (b .numbers))

@@ -7,6 +7,8 @@ ghost use Rattle.scheme.specs.Memory.{sound};
 ghost use Rattle.builder.specs.Paper.{builderOf};
 ghost use Rattle.add_many.specs.Many.{lesserOf, cellsIn, builderAt, AddsMany};
 use builder::CellBuilder;
+use memory::BITS_LEN;
+use memory::REFS_COUNT;
 use memory::field;
 use memory::put_bytes;
 use scheme::DATA_LEN;
@@ -57,9 +59,9 @@ fn cell_at(heads: &[u32], blocks: &[u8], i: usize) -> CellBuilder
     put_bytes(&blocks[from..to], &mut bytes, 0);
     CellBuilder {
         exotic: heads[row] != 0,
-        len: field(heads, i, 1),
+        len: field(heads, i, BITS_LEN),
         bytes,
-        count: field(heads, i, 2),
+        count: field(heads, i, REFS_COUNT),
         refs: [
             heads[row + 3],
             heads[row + 4],

@@ -1,9 +1,10 @@
 -- What each answer says in the terms of the definitions. Two answers that say the same are the same, so each contract has one answer.
-use mathlib.Core.Path.{_≡_, ap, _∙_, sym}
+use mathlib.Core.Path.{_≡_, ap}
 use Prim.Native.Nat.{ℕ}
 use mathlib.Core.List.{List}
 use Rattle.scheme.specs.Res.{Res, bad, ok}
 use Rattle.scheme.specs.Bag.{Past}
+use Rattle.laws.specs.OneAnswer.{one-answer}
 use Rattle.bits.specs.Field.{fieldAt, byteAt, skipAt, skipFieldsAt}
 use Rattle.bits.specs.declared.Field.{Field}
 use Rattle.bits.specs.declared.Field.the-variants.{Number, Refused as FieldRefused}
@@ -53,13 +54,13 @@ skip-inj (SkipRefused r) (SkipRefused s) e = cc
 
 -- one answer for each public function
 pub read-field-unique : (b : List ℕ) (p n : ℕ) (r s : Field) → fieldPaper r ≡ fieldAt b p n → fieldPaper s ≡ fieldAt b p n → r ≡ s
-read-field-unique b p n r s e f = field-inj r s (e ∙ sym f)
+read-field-unique b p n r s e f = one-answer fieldPaper field-inj r s e f
 
 pub read-byte-unique : (b : List ℕ) (p : ℕ) (r s : Octet) → octetPaper r ≡ byteAt b p → octetPaper s ≡ byteAt b p → r ≡ s
-read-byte-unique b p r s e f = octet-inj r s (e ∙ sym f)
+read-byte-unique b p r s e f = one-answer octetPaper octet-inj r s e f
 
 pub skip-bytes-unique : (b : List ℕ) (p n : ℕ) (r s : Skip) → skipPaper r ≡ skipAt b p n → skipPaper s ≡ skipAt b p n → r ≡ s
-skip-bytes-unique b p n r s e f = skip-inj r s (e ∙ sym f)
+skip-bytes-unique b p n r s e f = one-answer skipPaper skip-inj r s e f
 
 pub skip-fields-unique : (b : List ℕ) (k n p : ℕ) (r s : Skip) → skipPaper r ≡ skipFieldsAt b k n p → skipPaper s ≡ skipFieldsAt b k n p → r ≡ s
-skip-fields-unique b k n p r s e f = skip-inj r s (e ∙ sym f)
+skip-fields-unique b k n p r s e f = one-answer skipPaper skip-inj r s e f

@@ -1,17 +1,16 @@
 -- What each test of max_depth leads to. Assumes nothing.
-use mathlib.Core.Path.{_≡_, refl, ap, _∙_}
+use mathlib.Core.Path.{_≡_}
 use mathlib.Core.Bool.{true, false}
 use mathlib.Core.List.{List}
-use Prim.Native.Nat.{ℕ, _*_, _+_, _<_, _≤_}
+use Prim.Native.Nat.{ℕ, _*_, _<_, _≤_}
 use native.Mathlib.Omega.{arith}
 use lib.ListN.{length}
-use lib.Dec.{leb}
 use borrow.Author.Tests.{lt-leb, le-leb}
-use Rattle.scheme.specs.Res.{Res, bad, ok, then, refusal}
-use Rattle.scheme.specs.Cells.{Cell, at}
+use Rattle.scheme.specs.Res.{Res, bad, ok, refusal}
+use Rattle.scheme.specs.Cells.{at}
 use Rattle.scheme.specs.Memory.{sound, cellAt, cellsOf}
 use Rattle.scheme.specs.Depth.{depthStep, depthOf, depth}
-use Rattle.scheme.specs.Calls.{lent, measuring}
+use Rattle.scheme.specs.Calls.{measuring}
 use Rattle.laws.specs.Lent.{lent-store, lent-nocell, lent-scratch, lent-cells}
 use Rattle.laws.specs.Folds.{value-cells}
 

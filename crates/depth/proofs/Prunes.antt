@@ -1,11 +1,11 @@
 -- Each test's way through the rule of a pruned branch, and the rule in a step of the pass. Assumes nothing.
-use mathlib.Core.Path.{_≡_, refl, sym, ap, _∙_}
+use mathlib.Core.Path.{_≡_, refl, sym, _∙_}
 use mathlib.Core.Bool.{Bool, true, false, cond}
 use mathlib.Core.List.{List, map}
 use Prim.Native.Nat.{ℕ, _+_, _*_, _/_, _<_, _≤_, min}
 use native.Mathlib.Nat.{add-zero}
 use native.Mathlib.Omega.{arith}
-use lib.ListN.{length, take, drop, getD, length-take, length-drop}
+use lib.ListN.{length, getD, length-take, length-drop}
 use lib.Seq.{getD-take, getD-drop}
 use lib.Count.{ones}
 use borrow.Author.Tests.{le-leb, lt-leb, eq-eqb, ne-eqb}
@@ -14,7 +14,6 @@ use Rattle.scheme.specs.Memory.{cellAt}
 use Rattle.scheme.specs.Depth.{over, isPruned, prunedDepth, depthStep}
 use Rattle.laws.specs.Records.{CellOk}
 use Rattle.laws.specs.Passes.{Caps, over-cut}
-use Rattle.depth.specs.declared.Pruned.{Pruned}
 use Rattle.depth.specs.declared.Pruned.the-variants.{Is, Not}
 use Rattle.depth.specs.Pruned.{prunedOf}
 

@@ -1,6 +1,6 @@
 // The depth of a cell: a pass by number over the stored cells, with one scratch entry a cell.
 ghost use mathlib.Core.Path.{_≡_};
-ghost use Prim.Native.Nat.{ℕ, _+_, _*_, _≤_, _<_, min};
+ghost use Prim.Native.Nat.{_+_, _*_, _≤_, _<_, min};
 ghost use mathlib.Core.List.{_++_, map};
 ghost use lib.ListN.{length, drop};
 ghost use Rattle.scheme.specs.Memory.{cellAt};
@@ -10,6 +10,10 @@ ghost use Rattle.scheme.specs.Calls.{measuring};
 ghost use Rattle.laws.specs.Records.{refsAt, RecordOk, CellOk, CellsOk};
 ghost use Rattle.depth.specs.Paper.{paperOf, Measures};
 ghost use Rattle.depth.specs.Pruned.{prunedOf};
+use memory::BITS_LEN;
+use memory::EXOTIC;
+use memory::FIRST_REF;
+use memory::REFS_COUNT;
 use memory::field;
 use memory::zero_numbers;
 use scheme::DATA_LEN;
@@ -48,11 +52,11 @@ pub fn over_refs(table: &[u32], scratch: &[u32], i: usize, cap: u32) -> u32
     requires { ⌜ i ≤ length (now scratch) ⌝ }
     ensures { λ r. ⌜ r ≡ min cap (over (pick 0 (now (scratch .entry)) (refsAt (now (table .entry)) i))) ⌝ }
 {
-    let k = field(table, i, 2);
+    let k = field(table, i, REFS_COUNT);
     let mut j = 0;
     let mut h = 0;
     while j < k {
-        let r = field(table, i, 3 + j);
+        let r = field(table, i, FIRST_REF + j);
         let x = scratch[r];
         if h <= x {
             if x < cap {
@@ -83,11 +87,11 @@ fn pruned_at(table: &[u32], bytes: &[u8], i: usize) -> Pruned
     requires { ⌜ CellOk (now table) (now bytes) i ⌝ }
     ensures { λ r. ⌜ r ≡ prunedOf (cellAt (now (table .entry)) (now (bytes .entry)) i) ⌝ }
 {
-    let exotic = field(table, i, 0);
+    let exotic = field(table, i, EXOTIC);
     if exotic != 1 {
         return Pruned::Not;
     }
-    let len = (field(table, i, 1) + 7) / 8;
+    let len = (field(table, i, BITS_LEN) + 7) / 8;
     if len < PRUNED_LEN {
         return Pruned::Not;
     }

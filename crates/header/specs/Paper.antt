@@ -1,10 +1,11 @@
 -- What each answer says in the terms of the definitions. Two answers that say the same are the same, so each contract has one answer.
-use mathlib.Core.Path.{_≡_, _∙_, sym}
+use mathlib.Core.Path.{_≡_}
 use mathlib.Core.Bool.{true}
 use Prim.Native.Nat.{ℕ}
 use mathlib.Core.List.{List}
 use Rattle.scheme.specs.Res.{Res, bad, ok}
 use Rattle.scheme.specs.Layout.{Layout as Shape}
+use Rattle.laws.specs.OneAnswer.{one-answer}
 use Rattle.header.specs.Header.{Opening, headerAt}
 use Rattle.header.specs.declared.Layout.{Layout}
 use Rattle.header.specs.declared.Flags.{Flags}
@@ -44,4 +45,4 @@ paper-inj (Refused r) (Refused s) e = cc
 
 -- one answer
 pub read-header-unique : (b : List ℕ) (scratch room : ℕ) (r s : HeaderAnswer) → paperOf r ≡ headerAt b scratch room → paperOf s ≡ headerAt b scratch room → r ≡ s
-read-header-unique b scratch room r s e f = paper-inj r s (e ∙ sym f)
+read-header-unique b scratch room r s e f = one-answer paperOf paper-inj r s e f

@@ -9,16 +9,16 @@ use lib.ListN.{length, getD, take, set, length-take, length-set}
 use lib.Seq.{take-suc, take-set-le, take-suc-set, getD-take, getD-set-same, length-take-le}
 use lib.Dec.{leb, ltb}
 use borrow.Author.Tests.{leb-true, ltb-true}
-use Rattle.scheme.specs.Res.{Res, bad, ok, then, check, refusal}
+use Rattle.scheme.specs.Res.{Res, bad, ok, check, refusal}
 use Rattle.scheme.specs.Bits.{bitOf, bytesFor, mask, cropped}
-use Rattle.scheme.specs.Cells.{Cell, find, insert}
+use Rattle.scheme.specs.Cells.{Cell, insert}
 use Rattle.scheme.specs.Builder.{Builder, cellIn}
 use Rattle.scheme.specs.Memory.{capacity, cellsOf, sound, held, layTable, layBytes}
 use Rattle.scheme.specs.Add.{Added, refsHeld, add}
 use Rattle.scheme.specs.Calls.{StoreOut, addOut, adding}
 use Rattle.laws.specs.Accept.{then-use, check-inv}
 use Rattle.laws.specs.Wf.{WfCell, Wf}
-use Rattle.laws.specs.Records.{unusedIn, SoundMemory, sound-is, cells-length}
+use Rattle.laws.specs.Records.{unusedIn, sound-is, cells-length}
 use Rattle.laws.specs.RoundLaws.{cells-back}
 use Rattle.laws.specs.Lay.{split, past, wf-cells, wf-insert, sound-lay}
 

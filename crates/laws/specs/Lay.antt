@@ -1,24 +1,24 @@
 -- Memory and cells: the memory of a sound store is a function of its cells and its capacity, and the memory of well-formed cells is a sound store. Assumes nothing.
-use Prim.Native.Nat.{ℕ, zero, suc, _+_, _*_, _/_, _%_, _-_, _^_, _<_, _≤_}
+use Prim.Native.Nat.{ℕ, zero, suc, _+_, _*_, _/_, _%_, _-_, _<_, _≤_}
 use mathlib.Core.Path.{_≡_, refl, sym, ap, subst, _∙_}
 use mathlib.Core.List.{List, [], _∷_, _++_, append-nil, append-assoc}
-use mathlib.Core.Bool.{Bool, true, false, _&&_, cond}
+use mathlib.Core.Bool.{Bool, true, false}
 use mathlib.Core.Logic.{_⊎_, inl, inr}
-use native.Mathlib.Nat.{add-zero, zero-mod, zero-mul, le-of-suc-le-suc}
+use native.Mathlib.Nat.{add-zero, zero-mod, zero-mul}
 use native.Mathlib.Omega.{arith}
 use lib.ListN.{length, getD, take, drop, replicate, length-take, length-drop, length-append, length-replicate, getD-replicate, take-append-drop, List·getD-eq-default, List·getD-append}
-use lib.Seq.{take-all, take-append-le, getD-take, getD-drop, getD-append-add, take-add, take-take, drop-at, drop-drop, length-take-le, paste}
-use lib.Dec.{eqb, leb, ltb}
+use lib.Seq.{take-all, take-append-le, getD-take, getD-drop, getD-append-add, take-add, take-take, drop-at, drop-drop, length-take-le}
+use lib.Dec.{eqb, ltb}
 use borrow.Author.Tests.{eqb-true, eq-eqb, le-leb, lt-ltb, le-ltb, ltb-true, ltb-false}
 use Rattle.scheme.specs.Bits.{bytesFor}
 use Rattle.scheme.specs.Cells.{Cell, blank, at, find, insert}
-use Rattle.scheme.specs.Memory.{capacity, cellAt, cellsOf, allBelow, allZero, soundRef, tailZero, soundCell, sized, sound, rowOf, blockOf, rows, blocks, layTable, layBytes}
+use Rattle.scheme.specs.Memory.{cellAt, cellsOf, allBelow, allZero, soundRef, tailZero, soundCell, sized, sound, rowOf, blockOf, rows, blocks, layTable, layBytes}
 use Rattle.laws.specs.Tests.{and-left, and-right}
 use Rattle.laws.specs.Puts.{puts, puts-parts}
 use Rattle.laws.specs.Wf.{WfCell, Wf}
 use Rattle.laws.specs.Unique.{find-cases, insert-old, insert-new}
-use Rattle.laws.specs.Records.{unusedIn, Sized, CellSound, SoundMemory, sound-is, cells-length, cells-at}
-use Rattle.laws.specs.RoundLaws.{rows-length, blocks-length, wf-small, nth-row, nth-block, cells-back}
+use Rattle.laws.specs.Records.{unusedIn, CellSound, SoundMemory, cells-length, cells-at}
+use Rattle.laws.specs.RoundLaws.{rows-length, blocks-length, wf-small, nth-row, nth-block}
 
 -- zeros
 pub zeros-is : (xs : List ℕ) → allZero xs ≡ true → xs ≡ replicate (length xs) 0

@@ -6,6 +6,15 @@ ghost use lib.ListN.{length, getD, replicate};
 ghost use Rattle.laws.specs.Puts.{puts};
 use scheme::RECORD_LEN;
 
+// The numbers of a record: flag, number of bits, number of references, and from the last on the references.
+pub const EXOTIC: usize = 0;
+
+pub const BITS_LEN: usize = 1;
+
+pub const REFS_COUNT: usize = 2;
+
+pub const FIRST_REF: usize = 3;
+
 // Number f of record i.
 pub fn field(table: &[u32], i: usize, f: usize) -> usize
     requires { ⌜ i * 7 + 7 ≤ length (now table) ⌝ }

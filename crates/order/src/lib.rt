@@ -10,14 +10,11 @@ ghost use Rattle.laws.specs.Distinct.{Nodup};
 ghost use Rattle.laws.specs.Counts.{bump, countDown, settle as settling};
 ghost use Rattle.laws.specs.Records.{refsAt, RecordOk, Linked};
 ghost use Rattle.order.specs.Queue.{kidsAt, seenAt, Small, waitMem, waitEnd, Joined, Roomy, Listed, Placed, Ordered};
+use memory::FIRST_REF;
+use memory::REFS_COUNT;
 use memory::entry;
 use memory::field;
 use memory::zero_numbers;
-// The numbers of a record: how many references it has, and the first of them.
-const REFS_COUNT: usize = 2;
-
-const FIRST_REF: usize = 3;
-
 // Whether x is among the first j references of record i.
 fn named(table: &[u32], i: usize, j: usize, x: usize) -> bool
     requires { ⌜ RecordOk (now table) i ⌝ }

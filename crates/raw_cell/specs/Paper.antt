@@ -1,9 +1,10 @@
 -- What each answer says in the terms of the definitions. Two answers that say the same are the same, so each contract has one answer.
-use mathlib.Core.Path.{_≡_, _∙_, sym}
+use mathlib.Core.Path.{_≡_}
 use Prim.Native.Nat.{ℕ}
 use mathlib.Core.List.{List}
 use Rattle.scheme.specs.Res.{Res, bad, ok}
 use Rattle.scheme.specs.Bag.{Past}
+use Rattle.laws.specs.OneAnswer.{one-answer, one-content}
 use Rattle.raw_cell.specs.Frame.{frame}
 use Rattle.raw_cell.specs.Block.{blockAt}
 use Rattle.raw_cell.specs.declared.DataAnswer.{DataAnswer}
@@ -28,7 +29,7 @@ paper-inj (Refused r) (Refused s) e = cc
 
 -- one answer, and one block
 pub raw-cell-unique : (b : List ℕ) (size p : ℕ) (r s : RawCellAnswer) → paperOf r ≡ frame b size p → paperOf s ≡ frame b size p → r ≡ s
-raw-cell-unique b size p r s e f = paper-inj r s (e ∙ sym f)
+raw-cell-unique b size p r s e f = one-answer paperOf paper-inj r s e f
 
 pub copy-data-unique : (b : List ℕ) (p len : ℕ) (o q : List ℕ) → o ≡ blockAt b p len → q ≡ blockAt b p len → o ≡ q
-copy-data-unique b p len o q e f = e ∙ sym f
+copy-data-unique b p len o q e f = one-content e f

@@ -1,5 +1,5 @@
 -- What an answer says in the terms of the definitions, and what each function promises.
-use mathlib.Core.Path.{_≡_, refl, sym, ap, _∙_}
+use mathlib.Core.Path.{_≡_, refl, ap}
 use Prim.Native.Nat.{ℕ, _+_, _-_, _*_, _≤_, _<_}
 use mathlib.Core.Bool.{Bool, true}
 use mathlib.Core.List.{List, map, List·Memᴰ as Mem}
@@ -17,6 +17,7 @@ use Rattle.bag.specs.Places.{cellsAt}
 use Rattle.bag.specs.Paper.{AreCells}
 use Rattle.bag.specs.declared.Check.{Check}
 use Rattle.bag.specs.declared.Check.the-variants.{Passed, Refused as NotPlaced}
+use Rattle.laws.specs.OneAnswer.{one-answer, one-content}
 use Rattle.reader.specs.Placing.{Placed}
 use Rattle.reader.specs.declared.Counts.{Counts}
 use Rattle.reader.specs.declared.ReadAnswer.{ReadAnswer}
@@ -66,12 +67,12 @@ module _ (whole : Bool) (n : ℕ) (t d s rs reply : List ℕ) where
   pub reads-unique : (r : ReadAnswer) (n′ : ℕ) (t′ d′ s′ rs′ : List ℕ) (q : ReadAnswer) (n″ : ℕ) (t″ d″ s″ rs″ : List ℕ)
       → Reads whole n t d s rs reply r n′ t′ d′ s′ rs′ → Reads whole n t d s rs reply q n″ t″ d″ s″ rs″ → Same r q n′ n″ t′ t″ d′ d″ s′ s″ rs′ rs″
   reads-unique r n′ t′ d′ s′ rs′ q n″ t″ d″ s″ rs″ a b = record {
-    answer = paper-inj r q (a .answer ∙ sym (b .answer));
-    count = a .count ∙ sym (b .count);
-    table = a .table ∙ sym (b .table);
-    bytes = a .bytes ∙ sym (b .bytes);
-    scratch = a .scratch ∙ sym (b .scratch);
-    roots = a .roots ∙ sym (b .roots);
+    answer = one-answer paperOf paper-inj r q (a .answer) (b .answer);
+    count = one-content (a .count) (b .count);
+    table = one-content (a .table) (b .table);
+    bytes = one-content (a .bytes) (b .bytes);
+    scratch = one-content (a .scratch) (b .scratch);
+    roots = one-content (a .roots) (b .roots);
   }
 
 -- the same before the scratch is cleared, where x is what is read

@@ -86,7 +86,8 @@ fn place_cell(
     requires { ⌜ sound (now count) (now table) (now bytes) ≡ true ⌝ }
     requires { ⌜ (size ≤ 4) × (cells ≤ 4096) × (2 * cells ≤ length (now scratch)) × IsCell (now reply) size at ⌝ }
     requires { ⌜ ((r : ℕ) → Mem r ((cellAt (now reply) size at) .refs) → (r < cells) × (getD (now scratch) (cells + r) 0 < now count)) ⌝ }
-    ensures { λ r. ⌜ Places (now (count .entry)) (now (table .entry)) (now (bytes .entry)) (numbered (now (scratch .entry)) cells (cellAt (now (reply .entry)) size at)) r (now (count .exit)) (now (table .exit)) (now (bytes .exit)) ⌝ }
+    ensures { λ r. ⌜ Places (now (count .entry)) (now (table .entry)) (now (bytes .entry)) (numbered (now (scratch .entry)) cells (cellAt
+        (now (reply .entry)) size at)) r (now (count .exit)) (now (table .exit)) (now (bytes .exit)) ⌝ }
 {
     match raw_cell(reply, at as usize, size) {
         RawCellAnswer::Refused(r) => Added::Refused(r),
@@ -120,7 +121,8 @@ fn place_cells(
     scratch: &mut [u32],
 ) -> Check
     requires { ⌜ Ready (now reply) size cells (now count) (now table) (now bytes) (now scratch) ⌝ }
-    ensures { λ r. ⌜ PlacesAll (now (reply .entry)) size cells (now (count .entry)) (now (table .entry)) (now (bytes .entry)) (now (scratch .entry)) r (now (count .exit)) (now (table .exit)) (now (bytes .exit)) (now (scratch .exit)) ⌝ }
+    ensures { λ r. ⌜ PlacesAll (now (reply .entry)) size cells (now (count .entry)) (now (table .entry)) (now (bytes .entry)) (now (scratch .entry)) r
+        (now (count .exit)) (now (table .exit)) (now (bytes .exit)) (now (scratch .exit)) ⌝ }
 {
     let mut i = cells;
     while 0 < i {
@@ -149,7 +151,10 @@ fn store_bag(
     requires { ⌜ sound (now count) (now table) (now bytes) ≡ true ⌝ }
     requires { ⌜ Kept (now reply) (length (now roots)) (now scratch) o ⌝ }
     requires { ⌜ Whole (bagOf (now reply) (now scratch) o) ⌝ }
-    ensures { λ r. ⌜ Stores (now (count .entry)) (now (table .entry)) (now (bytes .entry)) (now (scratch .entry)) (now (roots .entry)) (stored (capacity (now (table .entry))) (cellsOf (now (count .entry)) (now (table .entry)) (now (bytes .entry))) (bagOf (now (reply .entry)) (now (scratch .entry)) o)) r (now (count .exit)) (now (table .exit)) (now (bytes .exit)) (now (scratch .exit)) (now (roots .exit)) ⌝ }
+    ensures { λ r. ⌜ Stores (now (count .entry)) (now (table .entry)) (now (bytes .entry)) (now (scratch .entry))
+        (now (roots .entry)) (stored (capacity (now (table .entry))) (cellsOf (now (count .entry)) (now (table .entry)) (now (bytes .entry))) (bagOf
+        (now (reply .entry)) (now (scratch .entry)) o)) r (now (count .exit)) (now (table .exit)) (now (bytes .exit)) (now (scratch .exit))
+        (now (roots .exit)) ⌝ }
 {
     let old = *count;
     match place_cells(reply, o.size, o.cells, count, table, bytes, scratch) {
@@ -179,7 +184,10 @@ fn read_in(
     scratch: &mut [u32],
     roots: &mut [u32],
 ) -> ReadAnswer
-    ensures { λ r. ⌜ Stores (now (count .entry)) (now (table .entry)) (now (bytes .entry)) (now (scratch .entry)) (now (roots .entry)) (then (held (now (count .entry)) (now (table .entry)) (now (bytes .entry))) λ s. read whole (length (now (scratch .entry))) (length (now (roots .entry))) (capacity (now (table .entry))) s (now (reply .entry))) r (now (count .exit)) (now (table .exit)) (now (bytes .exit)) (now (scratch .exit)) (now (roots .exit)) ⌝ }
+    ensures { λ r. ⌜ Stores (now (count .entry)) (now (table .entry)) (now (bytes .entry)) (now (scratch .entry)) (now (roots .entry)) (then (held
+        (now (count .entry)) (now (table .entry)) (now (bytes .entry))) λ s. read whole (length (now (scratch .entry))) (length
+        (now (roots .entry))) (capacity (now (table .entry))) s (now (reply .entry))) r (now (count .exit)) (now (table .exit)) (now (bytes .exit))
+        (now (scratch .exit)) (now (roots .exit)) ⌝ }
 {
     if !is_sound(*count, table, bytes) {
         return ReadAnswer::Refused(Refusal {
@@ -203,7 +211,8 @@ fn read_bag(
     scratch: &mut [u32],
     roots: &mut [u32],
 ) -> ReadAnswer
-    ensures { λ r. ⌜ Reads whole (now (count .entry)) (now (table .entry)) (now (bytes .entry)) (now (scratch .entry)) (now (roots .entry)) (now (reply .entry)) r (now (count .exit)) (now (table .exit)) (now (bytes .exit)) (now (scratch .exit)) (now (roots .exit)) ⌝ }
+    ensures { λ r. ⌜ Reads whole (now (count .entry)) (now (table .entry)) (now (bytes .entry)) (now (scratch .entry)) (now (roots .entry))
+        (now (reply .entry)) r (now (count .exit)) (now (table .exit)) (now (bytes .exit)) (now (scratch .exit)) (now (roots .exit)) ⌝ }
 {
     let answer = read_in(reply, whole, count, table, bytes, scratch, roots);
     zero_numbers(scratch);
@@ -219,7 +228,8 @@ pub fn deserialize(
     scratch: &mut [u32],
     roots: &mut [u32],
 ) -> ReadAnswer
-    ensures { λ r. ⌜ Reads false (now (count .entry)) (now (table .entry)) (now (bytes .entry)) (now (scratch .entry)) (now (roots .entry)) (now (reply .entry)) r (now (count .exit)) (now (table .exit)) (now (bytes .exit)) (now (scratch .exit)) (now (roots .exit)) ⌝ }
+    ensures { λ r. ⌜ Reads false (now (count .entry)) (now (table .entry)) (now (bytes .entry)) (now (scratch .entry)) (now (roots .entry))
+        (now (reply .entry)) r (now (count .exit)) (now (table .exit)) (now (bytes .exit)) (now (scratch .exit)) (now (roots .exit)) ⌝ }
 {
     read_bag(reply, false, count, table, bytes, scratch, roots)
 }
@@ -233,7 +243,8 @@ pub fn unpack_fully(
     scratch: &mut [u32],
     roots: &mut [u32],
 ) -> ReadAnswer
-    ensures { λ r. ⌜ Reads true (now (count .entry)) (now (table .entry)) (now (bytes .entry)) (now (scratch .entry)) (now (roots .entry)) (now (reply .entry)) r (now (count .exit)) (now (table .exit)) (now (bytes .exit)) (now (scratch .exit)) (now (roots .exit)) ⌝ }
+    ensures { λ r. ⌜ Reads true (now (count .entry)) (now (table .entry)) (now (bytes .entry)) (now (scratch .entry)) (now (roots .entry))
+        (now (reply .entry)) r (now (count .exit)) (now (table .exit)) (now (bytes .exit)) (now (scratch .exit)) (now (roots .exit)) ⌝ }
 {
     read_bag(reply, true, count, table, bytes, scratch, roots)
 }

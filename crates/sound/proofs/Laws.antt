@@ -1,6 +1,6 @@
 -- Laws of the tests of soundness. Assumes nothing.
 use Prim.Native.Nat.{ℕ, zero, suc, _+_, _*_, _/_, _%_, _-_, _^_, _<_, _≤_}
-use mathlib.Core.Path.{_≡_, refl, sym, ap, subst, _∙_}
+use mathlib.Core.Path.{_≡_, refl, ap, _∙_}
 use mathlib.Core.List.{List, [], _∷_, _++_}
 use mathlib.Core.Bool.{Bool, true, false, _&&_, cond}
 use native.Mathlib.Nat.{add-zero, add-assoc}
@@ -9,7 +9,7 @@ use native.Mathlib.Omega.{arith}
 use lib.ListN.{length, getD, take, drop, length-take, length-drop}
 use lib.Seq.{take-suc, take-all}
 use lib.Bits.{bitOr, or-zero-l, or-add-and, and-le-r}
-use lib.Dec.{eqb, leb, ltb}
+use lib.Dec.{eqb, ltb}
 use borrow.Author.Tests.{eq-eqb, ne-eqb, lt-ltb, le-ltb, lt-leb, le-leb}
 use Rattle.scheme.specs.Bits.{bytesFor}
 use Rattle.scheme.specs.Memory.{allBelow, allZero, soundRef, tailZero, soundCell, sized, sound}
@@ -65,7 +65,8 @@ pub ref-unused : (k used r i : ℕ) → used ≤ k → eqb r 0 ≡ cond (ltb k u
 ref-unused k used r i h = rw (le-ltb k used h)
 
 -- what `sound_refs` learns of a reference
-pub ref-is : (t : List ℕ) (i k used r : ℕ) (b : Bool) → used ≡ getD t (i * 7 + 2) 0 → r ≡ getD t (i * 7 + (3 + k)) 0 → b ≡ cond (ltb k used) (ltb r i) (eqb r 0) → soundRef t i k ≡ b
+pub ref-is : (t : List ℕ) (i k used r : ℕ) (b : Bool) → used ≡ getD t (i * 7 + 2) 0 → r ≡ getD t (i * 7 + (3 + k)) 0 → b ≡ cond (ltb k used) (ltb r i) (eqb r 0)
+    → soundRef t i k ≡ b
 unfolding soundRef
 ref-is t i k used r b e f g = rw (add-assoc (i * 7) 3 k, ← e, ← f, ← g)
 

@@ -6,6 +6,10 @@ ghost use lib.ListN.{length};
 ghost use lib.Dec.{eqb, ltb};
 ghost use Rattle.scheme.specs.Memory.{allBelow, allZero, soundRef, tailZero, soundCell, sized, sound};
 ghost use Rattle.laws.specs.Records.{unusedIn};
+use memory::BITS_LEN;
+use memory::EXOTIC;
+use memory::FIRST_REF;
+use memory::REFS_COUNT;
 use memory::field;
 use scheme::DATA_LEN;
 use scheme::MAX_BITS_LEN;
@@ -54,10 +58,10 @@ fn sound_refs(table: &[u32], i: usize) -> bool
     requires { ⌜ i * 7 + 7 ≤ length (now table) ⌝ }
     ensures { λ r. ⌜ r ≡ allBelow 4 (soundRef (now (table .entry)) i) ⌝ }
 {
-    let used = field(table, i, 2);
+    let used = field(table, i, REFS_COUNT);
     let mut k = 0;
     while k < MAX_REFS_COUNT {
-        if !sound_ref(field(table, i, 3 + k), k, used, i) {
+        if !sound_ref(field(table, i, FIRST_REF + k), k, used, i) {
             return false;
         }
         k += 1;
@@ -100,14 +104,14 @@ fn sound_cell(table: &[u32], bytes: &[u8], i: usize) -> bool
     requires { ⌜ (i * 7 + 7 ≤ length (now table)) × (i * 128 + 128 ≤ length (now bytes)) ⌝ }
     ensures { λ r. ⌜ r ≡ soundCell (now (table .entry)) (now (bytes .entry)) i ⌝ }
 {
-    if field(table, i, 0) > 1 {
+    if field(table, i, EXOTIC) > 1 {
         return false;
     }
-    let bits = field(table, i, 1);
+    let bits = field(table, i, BITS_LEN);
     if bits > MAX_BITS_LEN {
         return false;
     }
-    if field(table, i, 2) > MAX_REFS_COUNT {
+    if field(table, i, REFS_COUNT) > MAX_REFS_COUNT {
         return false;
     }
     if !sound_refs(table, i) {

@@ -1,26 +1,23 @@
 -- The ways out of `place`, over plain variables. Assumes nothing.
 use Prim.Native.Nat.{ℕ, _+_, _-_, _*_, _/_, _<_, _≤_}
-use mathlib.Core.Path.{_≡_, refl, sym, ap, _∙_}
+use mathlib.Core.Path.{_≡_, sym, ap, _∙_}
 use mathlib.Core.List.{List, [], _∷_, _++_, append-nil}
-use mathlib.Core.Bool.{Bool, true, false}
 use native.Mathlib.Nat.{add-assoc}
 use native.Mathlib.Numerals.{add-one}
 use native.Mathlib.Omega.{arith}
-use lib.ListN.{length, getD, take, drop, set, replicate, length-take, length-append, length-drop, drop-of-length-le}
+use lib.ListN.{length, getD, take, drop, set, replicate, length-take, length-drop, drop-of-length-le}
 use lib.Seq.{take-all, drop-cons}
-use lib.Dec.{leb}
 use borrow.Author.Tests.{le-leb, lt-leb}
-use Rattle.scheme.specs.Res.{Res, bad, ok, then, check, refusal}
+use Rattle.scheme.specs.Res.{bad, ok, refusal}
 use Rattle.scheme.specs.Bits.{bytesFor}
 use Rattle.scheme.specs.Cells.{Cell, find, insert}
-use Rattle.scheme.specs.Memory.{cellsOf, rowOf, blockOf, layTable, layBytes}
-use Rattle.scheme.specs.Calls.{addOut}
+use Rattle.scheme.specs.Memory.{cellsOf, rowOf, blockOf}
 use Rattle.laws.specs.Puts.{puts}
 use Rattle.laws.specs.Unique.{find-le, insert-old, insert-new}
 use Rattle.laws.specs.Records.{SoundMemory, cells-length}
 use Rattle.laws.specs.Lay.{lay-table, lay-bytes, lay-table-put, lay-bytes-put, count-snoc}
 use Rattle.store.specs.Search.{cellOf}
-use Rattle.store.specs.Paper.{Places, placed, placing}
+use Rattle.store.specs.Paper.{Places, placed}
 use Rattle.store.specs.declared.Added.the-variants.{Number, Refused}
 
 module _ (n : ℕ) (t d : List ℕ) (c : Cell) (s : SoundMemory n t d) where
@@ -34,7 +31,13 @@ module _ (n : ℕ) (t d : List ℕ) (c : Cell) (s : SoundMemory n t d) where
     is-held = rw (old, cells-length n t d, le-leb n (length t / 7) (s .held), ← e)
 
     pub places-held : Places n t d c (Number i) n t d
-    places-held = record { answer = rw is-held; count = rw is-held (sym (cells-length n t d)); table = rw is-held (sym (lay-table n t d s)); bytes = rw is-held (sym (lay-bytes n t d s)) }
+    places-held = record {
+      answer = rw is-held;
+      count = rw is-held (sym (cells-length n t d));
+      table = rw is-held (sym (lay-table n t d s));
+      bytes = rw is-held
+          (sym (lay-bytes n t d s));
+    }
 
   -- a cell that is not
   module _ (m : ℕ) (q : m ≡ find (cellsOf n t d) c) (l : n ≤ m) where
@@ -55,7 +58,8 @@ module _ (n : ℕ) (t d : List ℕ) (c : Cell) (s : SoundMemory n t d) where
     unfolding placed
     is-new h = rw (new, count-snoc n t d c, le-leb (n + 1) (length t / 7) (omega arith), ← e)
 
-    pub places-new : n < length t / 7 → length (c .bytes) ≤ 128 → (w t′ d′ : List ℕ) → w ≡ blockOf c → t′ ≡ puts t (n * 7) (rowOf [] c) → d′ ≡ puts d (n * 128) w → Places n t d c (Number n) (n + 1) t′ d′
+    pub places-new : n < length t / 7 → length (c .bytes) ≤ 128 → (w t′ d′ : List ℕ) → w ≡ blockOf c → t′ ≡ puts t (n * 7) (rowOf [] c) → d′ ≡ puts d (n * 128) w
+        → Places n t d c (Number n) (n + 1) t′ d′
     places-new h small w t′ d′ we te de =
         record {
           answer = rw (is-new h);
@@ -75,12 +79,14 @@ rest-empty p l = drop-of-length-le (drop p l) {i = length l - p} (simp length-dr
 rest-count : (p : ℕ) (l : List ℕ) → length (take (length l - p) (drop p l)) ≡ length l - p
 rest-count p l = rw (rest-is p l) (length-drop p l)
 
-pub rest-cleared : (p : ℕ) (l ys : List ℕ) → ys ≡ replicate (length (take (length l - p) (drop p l))) 0 → take p l ++ (ys ++ drop (length l - p) (drop p l)) ≡ take p l ++ replicate (length l - p) 0
+pub rest-cleared : (p : ℕ) (l ys : List ℕ) → ys ≡ replicate (length (take (length l - p) (drop p l))) 0
+    → take p l ++ (ys ++ drop (length l - p) (drop p l)) ≡ take p l ++ replicate (length l - p) 0
 rest-cleared p l ys e = rw (rest-empty p l, append-nil ys, e, rest-count p l)
 
 -- ---- `put_numbers`, `put_row`
 
-pub puts-turn : (src out : List ℕ) (at i : ℕ) (X : List ℕ) → i < length src → puts out (at + i) (drop i src) ≡ X → puts (set out (at + i) (getD src i 0)) (at + (i + 1)) (drop (i + 1) src) ≡ X
+pub puts-turn : (src out : List ℕ) (at i : ℕ) (X : List ℕ) → i < length src → puts out (at + i) (drop i src) ≡ X
+    → puts (set out (at + i) (getD src i 0)) (at + (i + 1)) (drop (i + 1) src) ≡ X
 unfolding puts
 puts-turn src out at i X h p = rw (← add-assoc at i 1) (rw (add-one i) (rw (drop-cons src i 0 h) at p))
 

@@ -1,16 +1,16 @@
 -- The test of a handed cell's references. Assumes nothing.
 use Prim.Native.Nat.{ℕ, zero, suc, _+_, _<_, _≤_}
-use mathlib.Core.Path.{_≡_, refl, sym, ap, subst, _∙_}
+use mathlib.Core.Path.{_≡_, refl, sym, ap, _∙_}
 use mathlib.Core.List.{List, [], _∷_}
 use mathlib.Core.Bool.{Bool, true, false, cond}
-use native.Mathlib.Nat.{zero-add, add-zero, not-suc-le-zero, le-of-suc-le-suc}
+use native.Mathlib.Nat.{zero-add, add-zero, le-of-suc-le-suc}
 use native.Mathlib.Numerals.{add-one}
 use native.Mathlib.Omega.{arith}
 use lib.ListN.{length, getD, drop, drop-of-length-le}
 use lib.Seq.{drop-cons}
 use lib.Dec.{ltb}
 use borrow.Author.Tests.{lt-ltb, le-ltb, ltb-true}
-use Rattle.scheme.specs.Res.{Res, bad, ok, then, check, refusal}
+use Rattle.scheme.specs.Res.{bad, ok, then, check, refusal}
 use Rattle.scheme.specs.Add.{refsHeld}
 use Rattle.store.specs.Paper.{firstNot}
 
@@ -59,7 +59,8 @@ unfolding firstNot
 refs-are n [] k e = refl
 refs-are n (x ∷ xs) k e = go (ltb x n) e (refs-are n xs (suc k))
   where
-    go : (b : Bool) → cond b (suc (firstNot n xs)) 0 ≡ suc (length xs) → (firstNot n xs ≡ length xs → refsHeld (suc k) n xs ≡ ok tt) → then (check b (refusal 19 k)) (λ _. refsHeld (suc k) n xs) ≡ ok tt
+    go : (b : Bool) → cond b (suc (firstNot n xs)) 0 ≡ suc (length xs) → (firstNot n xs ≡ length xs → refsHeld (suc k) n xs ≡ ok tt)
+        → then (check b (refusal 19 k)) (λ _. refsHeld (suc k) n xs) ≡ ok tt
     go true q ih = ih (omega arith)
     go false q ih = absurd (omega arith)
 

@@ -1,9 +1,9 @@
 -- Laws of the search: what the tests of a record against a cell say, and what is known below the next number. Assumes nothing.
-use Prim.Native.Nat.{ℕ, zero, suc, _+_, _*_, _/_, _-_, _<_, _≤_}
+use Prim.Native.Nat.{ℕ, zero, suc, _+_, _*_, _-_, _<_, _≤_}
 use mathlib.Core.Path.{_≡_, refl, sym, ap, subst, _∙_}
 use mathlib.Core.List.{List, [], _∷_, _++_}
 use mathlib.Core.Bool.{Bool, true, false, _&&_, cond}
-use native.Mathlib.Nat.{not-suc-le-zero, le-of-suc-le-suc, add-zero, add-suc, add-assoc}
+use native.Mathlib.Nat.{not-suc-le-zero, le-of-suc-le-suc, add-zero, add-assoc}
 use native.Mathlib.Numerals.{add-one}
 use native.Mathlib.Omega.{arith}
 use lib.ListN.{length, getD, take, drop, length-take, length-drop}
@@ -98,7 +98,8 @@ find-kept : (xs ys : List Cell) (c : Cell) → find xs c < length xs → find (x
 find-kept [] ys c h = absurd (not-suc-le-zero h)
 find-kept (x ∷ xs) ys c h = go (same x c) (find-kept xs ys c) h
   where
-    go : (b : Bool) → (find xs c < length xs → find (xs ++ ys) c ≡ find xs c) → cond b 0 (suc (find xs c)) < suc (length xs) → cond b 0 (suc (find (xs ++ ys) c)) ≡ cond b 0 (suc (find xs c))
+    go : (b : Bool) → (find xs c < length xs → find (xs ++ ys) c ≡ find xs c) → cond b 0 (suc (find xs c)) < suc (length xs)
+        → cond b 0 (suc (find (xs ++ ys) c)) ≡ cond b 0 (suc (find xs c))
     go true ih q = refl
     go false ih q = ap suc (ih (le-of-suc-le-suc q))
 
@@ -199,12 +200,14 @@ module _ (n : ℕ) (t d w rs : List ℕ) (flag bits i : ℕ) (fields : Fields n 
   unfolding cellAt
   cell-refs k x y l e p q g =
       let m : getD t (i * 7 + 2) 0 ≡ length rs = head-is-count e in
-      let a : getD (rowRefs t i) k 0 ≡ x = getD-take (getD t (i * 7 + 2) 0) (drop (i * 7 + 3) t) k 0 (omega arith) ∙ getD-drop (i * 7 + 3) t k 0 ∙ ap (λ (j : ℕ). getD t j 0) (add-assoc (i * 7) 3 k) ∙ sym p in
+      let a : getD (rowRefs t i) k 0 ≡ x = getD-take (getD t (i * 7 + 2) 0) (drop (i * 7 + 3) t) k 0 (omega arith) ∙ getD-drop (i * 7 + 3) t k 0 ∙ ap
+      (λ (j : ℕ). getD t j 0) (add-assoc (i * 7) 3 k) ∙ sym p in
       cases-refs (isFlag t i flag) (isBits t i bits) (eqbs (rowRefs t i) rs) (eqbs (rowBytes t d i) (take (bytesFor bits) w))
       (eqbs-diff (rowRefs t i) rs k (rw refs-length (omega arith)) l (λ z. g (sym a ∙ z ∙ sym q)))
 
   -- one more that agrees
-  pub refs-more : (k x y : ℕ) → k < length rs → i * 7 + 7 ≤ length t → length rs ≤ 4 → take k (drop (i * 7 + 3) t) ≡ take k rs → x ≡ getD t (i * 7 + (3 + k)) 0 → y ≡ getD rs k 0 → x ≡ y
+  pub refs-more : (k x y : ℕ) → k < length rs → i * 7 + 7 ≤ length t → length rs ≤ 4 → take k (drop (i * 7 + 3) t) ≡ take k rs → x ≡ getD t (i * 7 + (3 + k)) 0
+      → y ≡ getD rs k 0 → x ≡ y
       → take (k + 1) (drop (i * 7 + 3) t) ≡ take (k + 1) rs
   refs-more k x y l room few e p q g =
       front-more (drop (i * 7 + 3) t) rs k (simp length-drop (omega arith)) l e

@@ -1,27 +1,26 @@
 -- The ways out of `clear`, `clean`, `add`, `cell` and `cell_data`, over plain variables. Assumes nothing.
-use Prim.Native.Nat.{ℕ, zero, suc, _+_, _-_, _*_, _/_, _%_, _≤_, _<_}
-use mathlib.Core.Path.{_≡_, refl, sym, ap, subst, _∙_}
+use Prim.Native.Nat.{ℕ, zero, suc, _+_, _-_, _*_, _/_, _≤_, _<_}
+use mathlib.Core.Path.{_≡_, refl, sym, ap, _∙_}
 use mathlib.Core.Bool.{Bool, true, false}
-use mathlib.Core.List.{List, [], _∷_, _++_}
+use mathlib.Core.List.{List, _++_}
 use native.Mathlib.Omega.{arith}
-use lib.ListN.{length, getD, take, drop, set, replicate, length-append, length-replicate, length-set}
+use lib.ListN.{length, getD, take, drop, set, replicate, length-set}
 use lib.Seq.{take-at, length-take-le}
 use borrow.Rule.Slice.PartMut.{same-len-mid}
-use lib.Dec.{eqb, leb, ltb}
+use lib.Dec.{eqb}
 use borrow.Author.Tests.{lt-leb, le-leb, lt-ltb, le-ltb}
-use Rattle.scheme.specs.Res.{Res, bad, ok, then, check, refusal}
+use Rattle.scheme.specs.Res.{bad, ok, refusal}
 use Rattle.scheme.specs.Bits.{bitOf, bytesFor, cropped}
-use Rattle.scheme.specs.Cells.{Cell, at}
-use Rattle.scheme.specs.Memory.{sized, sound, held, cellAt, cellsOf, rowOf, blockOf, layTable, layBytes, rows, blocks}
+use Rattle.scheme.specs.Cells.{Cell}
+use Rattle.scheme.specs.Memory.{sized, sound, held, cellAt, cellsOf, blockOf, layTable, layBytes, rows, blocks}
 use Rattle.scheme.specs.Builder.{Builder, cellIn}
 use Rattle.scheme.specs.Add.{refsHeld, add}
 use Rattle.scheme.specs.Calls.{StoreOut, clearing, adding, asking, dataOf}
-use Rattle.laws.specs.Records.{unusedIn, Sized, sized-is, SoundMemory, sound-is, cells-length, cells-at}
+use Rattle.laws.specs.Records.{unusedIn, sized-is, sound-is, cells-length, cells-at}
 use Rattle.laws.specs.Lay.{row-numbers}
 use Rattle.laws.specs.Adding.{crop-set, crop-length}
 use Rattle.store.specs.Search.{cellOf}
-use Rattle.store.specs.Paper.{firstNot, headNumbers, recordAt, askedPaper, numbersOf, placed, placing, Clears, Adds, Places}
-use Rattle.store.specs.declared.CellHead.{CellHead}
+use Rattle.store.specs.Paper.{firstNot, headNumbers, recordAt, numbersOf, placed, placing, Clears, Adds, Places}
 use Rattle.store.specs.declared.Cleared.the-variants as cleared
 use Rattle.store.specs.declared.Added.{Added}
 use Rattle.store.specs.declared.Added.the-variants.{Refused}
@@ -50,7 +49,8 @@ set-room l i v n h = rw (length-set l i v) h
 
 pub clean-is : (b : List ℕ) (len v : ℕ) (ys : List ℕ) → length b ≡ 128 → len ≤ 1023 → v ≡ getD b (len / 8) 0 / unusedIn len * unusedIn len
     → ys ≡ replicate (length (take (length (set b (len / 8) v) - bytesFor len) (drop (bytesFor len) (set b (len / 8) v)))) 0
-    → take (bytesFor len) (set b (len / 8) v) ++ (ys ++ drop (length (set b (len / 8) v) - bytesFor len) (drop (bytesFor len) (set b (len / 8) v))) ≡ cropped len b ++ replicate (128 - bytesFor len) 0
+    → take (bytesFor len) (set b (len / 8) v) ++ (ys ++ drop (length (set b (len / 8) v) - bytesFor len)
+    (drop (bytesFor len) (set b (len / 8) v))) ≡ cropped len b ++ replicate (128 - bytesFor len) 0
 clean-is b len v ys h few e f =
     rest-cleared (bytesFor len) (set b (len / 8) v) ys f
     ∙ ap (λ (n : ℕ). take (bytesFor len) (set b (len / 8) v) ++ replicate (n - bytesFor len) 0) (length-set b (len / 8) v ∙ h)
@@ -109,7 +109,8 @@ module _ (n : ℕ) (t d : List ℕ) (b : Builder) where
               → w ≡ cropped (b .len) (b .bytes) ++ replicate (128 - bytesFor (b .len)) 0
               → Places n t d (cellOf flag (b .len) w (take (b .count) (b .refs))) r n′ t′ d′ → Adds n t d b r n′ t′ d′
           adds-placed flag w r n′ t′ d′ fe wide we pl =
-              let front : take (bytesFor (b .len)) w ≡ cropped (b .len) (b .bytes) = rw we (take-at (cropped (b .len) (b .bytes)) (replicate (128 - bytesFor (b .len)) 0) (bytesFor (b .len)) (crop-length (b .bytes) (b .len) wide few)) in
+              let front : take (bytesFor (b .len)) w ≡ cropped (b .len) (b .bytes) = rw we
+              (take-at (cropped (b .len) (b .bytes)) (replicate (128 - bytesFor (b .len)) 0) (bytesFor (b .len)) (crop-length (b .bytes) (b .len) wide few)) in
               let cell : cellOf flag (b .len) w (take (b .count) (b .refs)) ≡ cellIn b = rw (front, fe) in
               let out : placing n t d (cellOf flag (b .len) w (take (b .count) (b .refs))) ≡ adding n t d b = ap (λ (c : Cell). placing n t d c) cell ∙ adding-is in
               record {
@@ -138,7 +139,16 @@ bit-of-flag (suc zero) h = refl
 bit-of-flag (suc (suc x)) h = absurd (omega arith)
 
 pub head-is : (t : List ℕ) (i len m : ℕ) → getD t (i * 7) 0 ≤ 1 → len ≡ getD t (i * 7 + 1) 0 → m ≡ getD t (i * 7 + 2) 0
-    → headNumbers (record { exotic = eqb (getD t (i * 7) 0) 1; len = len; count = m; r0 = getD t (i * 7 + 3) 0; r1 = getD t (i * 7 + 4) 0; r2 = getD t (i * 7 + 5) 0; r3 = getD t (i * 7 + 6) 0 }) ≡ recordAt t i
+    → headNumbers (record {
+      exotic = eqb (getD t (i * 7) 0) 1;
+      len = len;
+      count = m;
+      r0 = getD t (i * 7 + 3) 0;
+      r1 = getD t (i * 7 + 4) 0;
+      r2 = getD t
+          (i * 7 + 5) 0;
+      r3 = getD t (i * 7 + 6) 0;
+    }) ≡ recordAt t i
 head-is t i len m h e f = rw (bit-of-flag (getD t (i * 7) 0) h, e, f)
 
 module _ (n : ℕ) (t d : List ℕ) (i : ℕ) where

@@ -1,24 +1,23 @@
 -- What a caller of `place` and `take_back` keeps: the store is sound again, and its cells are known. Assumes nothing.
 use Prim.Native.Nat.{ℕ, _<_, _≤_}
-use mathlib.Core.Path.{_≡_, refl, sym, ap, subst, _∙_}
+use mathlib.Core.Path.{_≡_, refl, ap, subst, _∙_}
 use mathlib.Core.Bool.{Bool, true, false}
 use mathlib.Core.List.{List}
 use native.Mathlib.Omega.{arith}
 use lib.ListN.{length}
 use lib.Dec.{leb}
 use borrow.Author.Tests.{leb-true, leb-false}
-use Rattle.scheme.specs.Res.{Res, bad, ok, check, refusal}
+use Rattle.scheme.specs.Res.{Res, bad, ok, refusal}
 use Rattle.scheme.specs.Cells.{Cell, find, insert}
 use Rattle.scheme.specs.Memory.{capacity, cellsOf, sound, layTable, layBytes}
 use Rattle.scheme.specs.Add.{Added as Placed}
 use Rattle.scheme.specs.Calls.{addOut}
 use Rattle.laws.specs.Wf.{WfCell, Wf}
-use Rattle.laws.specs.Records.{SoundMemory, sound-is, cells-length, cells-at}
+use Rattle.laws.specs.Records.{sound-is, cells-length, cells-at}
 use Rattle.laws.specs.RoundLaws.{cells-back}
 use Rattle.laws.specs.Lay.{wf-at, sound-lay, back-table, back-bytes}
 use Rattle.laws.specs.Adding.{insert-sound, insert-cells}
 use Rattle.store.specs.Paper.{placed, Places, TakesBack}
-use Rattle.store.specs.declared.Added.{Added}
 use Rattle.store.specs.declared.Added.the-variants.{Number, Refused}
 use Rattle.scheme.specs.declared.Refusal.{Refusal}
 
@@ -44,7 +43,8 @@ module _ (n : ℕ) (t d : List ℕ) (c : Cell) where
   abbrev room : Res Placed
   room = placed (capacity t) (cellsOf n t d) c
 
-  is-ok : leb (length (insert (cellsOf n t d) c)) (capacity t) ≡ true → placed (capacity t) (cellsOf n t d) c ≡ ok (record { number = find (cellsOf n t d) c; store = insert (cellsOf n t d) c })
+  is-ok : leb (length (insert (cellsOf n t d) c)) (capacity t) ≡ true → placed (capacity t) (cellsOf n t d) c ≡ ok
+      (record { number = find (cellsOf n t d) c; store = insert (cellsOf n t d) c })
   unfolding placed
   is-ok l = rw l
 
@@ -118,4 +118,5 @@ module _ (n : ℕ) (t d : List ℕ) (e : sound n t d ≡ true) (old : ℕ) (h : 
   pub back-cells : cellsOf n′ t′ d′ ≡ cellsOf old t d
   back-cells =
       rw (b .count, back-table-is, back-bytes-is)
-      (subst (λ (m : ℕ). cellsOf m (layTable (capacity t) (cellsOf old t d)) (layBytes (capacity t) (cellsOf old t d)) ≡ cellsOf old t d) (cells-length old t d) (cells-back (capacity t) (cellsOf old t d) wf-front))
+      (subst (λ (m : ℕ). cellsOf m (layTable (capacity t) (cellsOf old t d)) (layBytes (capacity t) (cellsOf old t d)) ≡ cellsOf old t d) (cells-length old t d)
+      (cells-back (capacity t) (cellsOf old t d) wf-front))

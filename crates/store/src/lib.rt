@@ -14,6 +14,10 @@ ghost use Rattle.laws.specs.Records.{unusedIn};
 ghost use Rattle.store.specs.Search.{Fields, cellOf, sameHead};
 ghost use Rattle.store.specs.Paper.{firstNot, headNumbers, recordAt, askedPaper, numbersOf, Places, TakesBack, Clears, Adds};
 use builder::CellBuilder;
+use memory::BITS_LEN;
+use memory::EXOTIC;
+use memory::FIRST_REF;
+use memory::REFS_COUNT;
 use memory::entry;
 use memory::field;
 use memory::put_bytes;
@@ -84,13 +88,13 @@ fn same_head(table: &[u32], i: usize, flag: u32, bits: usize, nrefs: usize) -> b
     requires { ⌜ i * 7 + 7 ≤ length (now table) ⌝ }
     ensures { λ r. ⌜ r ≡ sameHead (now (table .entry)) i flag bits nrefs ⌝ }
 {
-    if field(table, i, 1) != bits {
+    if field(table, i, BITS_LEN) != bits {
         return false;
     }
-    if field(table, i, 2) != nrefs {
+    if field(table, i, REFS_COUNT) != nrefs {
         return false;
     }
-    field(table, i, 0) == flag as usize
+    field(table, i, EXOTIC) == flag as usize
 }
 
 // One more than the greatest of the numbers, or 0 of none: at most what all of them are below.
@@ -139,7 +143,7 @@ fn find_cell(
         }
         let mut k = 0;
         while k < nrefs {
-            if field(table, i, 3 + k) != entry(refs, k) {
+            if field(table, i, FIRST_REF + k) != entry(refs, k) {
                 continue 'cells;
             }
             k += 1;
@@ -358,8 +362,8 @@ fn head_at(table: &[u32], n: usize) -> CellHead
     let row = n * RECORD_LEN;
     CellHead {
         exotic: table[row] == 1,
-        len: field(table, n, 1),
-        count: field(table, n, 2),
+        len: field(table, n, BITS_LEN),
+        count: field(table, n, REFS_COUNT),
         r0: table[row + 3],
         r1: table[row + 4],
         r2: table[row + 5],
@@ -397,6 +401,6 @@ pub fn cell_data<'a>(count: usize, table: &[u32], bytes: &'a [u8], n: usize) -> 
         return &bytes[..0];
     }
     let from = n * DATA_LEN;
-    let to = from + (field(table, n, 1) + 7) / 8;
+    let to = from + (field(table, n, BITS_LEN) + 7) / 8;
     &bytes[from..to]
 }

@@ -25,7 +25,8 @@ no-entries (x ∷ xs) e = absurd (omega arith)
 
 module _ (n : ℕ) (t d : List ℕ) (i : ℕ) (o : List ℕ) where
   -- once it is known what the copy comes to
-  copy-is : (x : Res (List ℕ)) → dataIn (length o) (asking n t d i) ≡ x → WireCopies n t d i o (numberOf ((copyOut o x) .answer)) ((copyOut o x) .out) (entriesOf 0 single ((copyOut o x) .answer))
+  copy-is : (x : Res (List ℕ)) → dataIn (length o) (asking n t d i) ≡ x
+      → WireCopies n t d i o (numberOf ((copyOut o x) .answer)) ((copyOut o x) .out) (entriesOf 0 single ((copyOut o x) .answer))
   unfolding copying
   copy-is x e = record {
     number = ap (λ (y : Res (List ℕ)). numberOf ((copyOut o y) .answer)) (sym e);

@@ -1,2 +1,3 @@
 pub mod Told
 pub mod Copied
+pub mod Reading

@@ -58,7 +58,8 @@ module _ (n : ℕ) (t d : List ℕ) (flag bits : ℕ) (own refs : List ℕ) wher
   unfolding offering
   add-cut e = record { number = rw e; entries = rw e; count = rw e; table = rw e; bytes = rw e }
 
-  module _ (e : leb bits (8 * length own) ≡ true) (b : Builder) (same : b ≡ wireCell flag bits own refs) (r : Added) (n′ : ℕ) (t′ d′ : List ℕ) (h : Adds n t d b r n′ t′ d′) where
+  module _ (e : leb bits (8 * length own) ≡ true) (b : Builder) (same : b ≡ wireCell flag bits own refs)
+      (r : Added) (n′ : ℕ) (t′ d′ : List ℕ) (h : Adds n t d b r n′ t′ d′) where
     is-add : adding n t d b ≡ offering n t d flag bits own refs
     unfolding offering
     is-add = rw (e, same)
@@ -108,7 +109,8 @@ module _ (n : ℕ) (t d : List ℕ) (i : ℕ) (r : Asked) (h : askedPaper r ≡ 
   pub cell-refused : (q : Refusal) → r ≡ asked.Refused q → WireAsks n t d i (q .number) (q .place ∷ 0 ∷ 0 ∷ 0 ∷ 0 ∷ 0 ∷ 0 ∷ [])
   cell-refused q e = told-cell (bad q) (sym (ap (λ (x : Asked). askedPaper x) e))
 
-module _ (idx crc n : ℕ) (t d : List ℕ) (i : ℕ) (s o : List ℕ) (args : BagOfCellsArgs) (a : args .«has_idx» ≡ not (eqb idx 0)) (b : args .«has_crc32c» ≡ not (eqb crc 0)) (r : Wrote) (s′ o′ : List ℕ)
+module _ (idx crc n : ℕ) (t d : List ℕ) (i : ℕ) (s o : List ℕ) (args : BagOfCellsArgs) (a : args .«has_idx» ≡ not (eqb idx 0)) (b : args .«has_crc32c» ≡ not (eqb crc 0))
+    (r : Wrote) (s′ o′ : List ℕ)
     (h : Serialized args n t d i s o r s′ o′) where
   told-write : (x : Res ℕ) → x ≡ wrotePaper r → WireWrites idx crc n t d i s o (numberOf x) s′ o′ (entriesOf 0 single x)
   told-write x e =

@@ -5,6 +5,7 @@ use lib.ListN.{replicate}
 use Rattle.scheme.specs.Res.{Res, bad, ok}
 use Rattle.scheme.specs.Cells.{Cell}
 use Rattle.scheme.specs.Memory.{rowOf}
+use Rattle.scheme.specs.Bag.{Counts}
 use Rattle.scheme.specs.Calls.{Printed}
 
 -- 0 where the call is accepted, else the number of the refusal
@@ -27,6 +28,9 @@ single n = n ∷ []
 -- flag, bits, number of references, the four references
 abbrev pub fields : Cell → List ℕ
 fields c = rowOf [] c
+
+abbrev pub counts : Counts → List ℕ
+counts c = c .used ∷ c .cells ∷ c .roots ∷ c .added ∷ []
 
 abbrev pub lengths : Printed → List ℕ
 lengths p = p .written ∷ p .cells ∷ []

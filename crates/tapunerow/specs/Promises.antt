@@ -4,8 +4,8 @@ use mathlib.Core.Path.{_≡_}
 use mathlib.Core.Bool.{not}
 use mathlib.Core.List.{List}
 use lib.Dec.{eqb}
-use Rattle.scheme.specs.Calls.{clearing, asking, writing, measuring, printing}
-use Rattle.tapunerow.specs.Answers.{numberOf, entriesOf, nothing, single, fields, lengths}
+use Rattle.scheme.specs.Calls.{clearing, asking, reading, writing, measuring, printing}
+use Rattle.tapunerow.specs.Answers.{numberOf, entriesOf, nothing, single, fields, counts, lengths}
 use Rattle.tapunerow.specs.Outcomes.{offering, copying}
 
 pub record WireClears (n : ℕ) (t d : List ℕ) (r n′ : ℕ) (t′ d′ a′ : List ℕ) : Type 0 where
@@ -30,6 +30,15 @@ pub record WireCopies (n : ℕ) (t d : List ℕ) (i : ℕ) (o : List ℕ) (r : �
   pub number : r ≡ numberOf ((copying n t d i o) .answer)
   pub entries : a′ ≡ entriesOf 0 single ((copying n t d i o) .answer)
   pub out : o′ ≡ (copying n t d i o) .out
+
+pub record WireReads (whole n : ℕ) (t d s rs reply : List ℕ) (r n′ : ℕ) (t′ d′ s′ rs′ a′ : List ℕ) : Type 0 where
+  pub number : r ≡ numberOf ((reading (not (eqb whole 0)) n t d s rs reply) .answer)
+  pub entries : a′ ≡ entriesOf 3 counts ((reading (not (eqb whole 0)) n t d s rs reply) .answer)
+  pub count : n′ ≡ (reading (not (eqb whole 0)) n t d s rs reply) .count
+  pub table : t′ ≡ (reading (not (eqb whole 0)) n t d s rs reply) .table
+  pub bytes : d′ ≡ (reading (not (eqb whole 0)) n t d s rs reply) .bytes
+  pub scratch : s′ ≡ (reading (not (eqb whole 0)) n t d s rs reply) .scratch
+  pub roots : rs′ ≡ (reading (not (eqb whole 0)) n t d s rs reply) .roots
 
 pub record WireWrites (idx crc n : ℕ) (t d : List ℕ) (i : ℕ) (s o : List ℕ) (r : ℕ) (s′ o′ a′ : List ℕ) : Type 0 where
   pub number : r ≡ numberOf ((writing (not (eqb idx 0)) (not (eqb crc 0)) n t d i s o) .answer)

@@ -3,11 +3,15 @@
 ghost use mathlib.Core.Path.{_≡_};
 ghost use Rattle.scheme.specs.Bits.{bitOf};
 ghost use Rattle.scheme.specs.Crc.{crcOf};
-ghost use Rattle.tapunerow.specs.Promises.{WireClears, WireAdds, WireAsks, WireCopies, WireWrites, WireMeasures, WirePrints};
+ghost use Rattle.reader.specs.Paper.{Reads};
+ghost use Rattle.tapunerow.specs.Promises.{WireClears, WireAdds, WireAsks, WireCopies, WireReads, WireWrites, WireMeasures, WirePrints};
 use crc32c::crc32c;
 use depth::Depth;
 use depth::max_depth;
 use memory::put_bytes;
+use reader::ReadAnswer;
+use reader::deserialize;
+use reader::unpack_fully;
 use scheme::CUT;
 use scheme::NOROOM;
 use store::Added;
@@ -162,6 +166,51 @@ pub extern "C" fn tapunerow_cell_data(
     put_bytes(own, out, 0);
     *answer = [len];
     0
+}
+
+// Reads a bag by one of the two readings.
+fn read(
+    reply: &[u8],
+    whole: bool,
+    count: &mut usize,
+    table: &mut [u32],
+    bytes: &mut [u8],
+    scratch: &mut [u32],
+    roots: &mut [u32],
+) -> ReadAnswer
+    ensures { λ r. ⌜ Reads whole (now (count .entry)) (now (table .entry)) (now (bytes .entry)) (now (scratch .entry)) (now (roots .entry)) (now (reply .entry)) r (now (count .exit)) (now (table .exit)) (now (bytes .exit)) (now (scratch .exit)) (now (roots .exit)) ⌝ }
+{
+    if whole {
+        return unpack_fully(reply, count, table, bytes, scratch, roots);
+    }
+    deserialize(reply, count, table, bytes, scratch, roots)
+}
+
+// Reads a bag into the store; if whole is set, no byte may follow it. The answer: bytes used, bag cells, roots, cells added.
+#[no_mangle]
+pub extern "C" fn tapunerow_read(
+    reply: &[u8],
+    whole: u32,
+    count: &mut usize,
+    table: &mut [u32],
+    bytes: &mut [u8],
+    scratch: &mut [u32],
+    roots: &mut [u32],
+    answer: &mut [usize; 4],
+) -> u32
+    ensures { λ r. ⌜ WireReads whole (now (count .entry)) (now (table .entry)) (now (bytes .entry)) (now (scratch .entry)) (now (roots .entry)) (now (reply .entry)) r (now (count .exit)) (now (table .exit)) (now (bytes .exit)) (now (scratch .exit)) (now (roots .exit)) (now (answer .exit)) ⌝ }
+{
+    let done = read(reply, is_set(whole), count, table, bytes, scratch, roots);
+    match done {
+        ReadAnswer::Done(c) => {
+            *answer = [c.used, c.cells, c.roots, c.added];
+            0
+        }
+        ReadAnswer::Refused(r) => {
+            *answer = [r.place, 0, 0, 0];
+            r.number
+        }
+    }
 }
 
 // Writes the bag of cell n to the front of out. The answer: the bytes written.

@@ -1,30 +1,27 @@
 -- What each test of printing leads to; a bound on a text's length; what is printed. Assumes nothing.
-use mathlib.Core.Path.{_≡_, refl, sym, ap, _∙_}
-use mathlib.Core.Bool.{Bool, true, false}
+use mathlib.Core.Path.{_≡_, refl, ap}
+use mathlib.Core.Bool.{true, false}
 use mathlib.Core.List.{List, [], _∷_, _++_}
 use mathlib.Core.Logic.{⊎-elim}
-use Prim.Native.Nat.{ℕ, _+_, _*_, _/_, _<_, _≤_, min}
+use Prim.Native.Nat.{ℕ, _+_, _*_, _<_, _≤_, min}
 use native.Mathlib.Nat.{le-refl}
 use native.Mathlib.Omega.{arith}
 use lib.ListN.{length, drop, getD, replicate}
 use lib.Dec.{ltb, leb}
 use borrow.Author.Tests.{lt-leb, le-leb, ltb-true, ltb-false, leb-true, leb-false}
 use Rattle.scheme.specs.declared.Refusal.{Refusal}
-use Rattle.scheme.specs.Res.{Res, bad, ok, then, refusal}
-use Rattle.scheme.specs.Cells.{Cell, at}
+use Rattle.scheme.specs.Res.{Res, bad, ok, refusal}
+use Rattle.scheme.specs.Cells.{at}
 use Rattle.scheme.specs.Memory.{sound, cellAt, cellsOf}
 use Rattle.scheme.specs.Text.{digits, sum, own, heightStep, height, sizeStep, treeSize, textStep, textOf, Page, page}
-use Rattle.scheme.specs.Calls.{lent, printing}
+use Rattle.scheme.specs.Calls.{printing}
 use Rattle.laws.specs.Tests.{bool-cases}
-use Rattle.laws.specs.Records.{refsAt, CellOk, CellsOk, cell-refs, refs-length, sound-cells}
+use Rattle.laws.specs.Records.{CellOk, CellsOk, cell-refs, refs-length}
 use Rattle.laws.specs.Folds.{Both, value-both, value-cells}
 use Rattle.laws.specs.Lent.{lent-store, lent-nocell, lent-scratch, lent-cells}
-use Rattle.text.specs.declared.Printed.{Printed}
-use Rattle.text.specs.declared.Text.{Text}
 use Rattle.text.specs.declared.Text.the-variants.{Printed as Done, Refused}
-use Rattle.text.specs.declared.Verdict.{Verdict}
 use Rattle.text.specs.declared.Verdict.the-variants.{Go, No}
-use Rattle.text.specs.Parts.{bytesAt, lengthStep, ownAt, textAt, sizeAt}
+use Rattle.text.specs.Parts.{bytesAt, lengthStep, textAt, sizeAt}
 use Rattle.text.specs.Paper.{pageAt, verdictOf, Prints}
 use Rattle.text.proofs.Digits.{digits-length}
 use Rattle.text.proofs.Texts.{own-width, around-le, length-eq}

@@ -1,5 +1,5 @@
 -- Laws of texts and sizes. Assumes nothing.
-use mathlib.Core.Path.{_≡_, refl, sym, ap, ap₂, subst, _∙_}
+use mathlib.Core.Path.{_≡_, refl, sym, ap, _∙_}
 use mathlib.Core.List.{List, [], _∷_, _++_, map, append-assoc, append-nil}
 use Prim.Native.Nat.{ℕ, zero, suc, _+_, _-_, _*_, _/_, _<_, _≤_, min}
 use native.Mathlib.Nat.{not-suc-le-zero, le-of-eq, le-refl, add-zero, eq-or-lt-of-le}
@@ -9,11 +9,10 @@ use lib.ListN.{length, take, drop, getD, length-append, length-map, length-take,
 use Rattle.scheme.specs.Cells.{Cell}
 use Rattle.laws.specs.Records.{refsAt, RecordOk, CellsOk, refs-cons, refs-end, refs-length}
 use Rattle.scheme.specs.Memory.{cellAt}
-use Rattle.scheme.specs.Fold.{below, value}
 use Rattle.laws.specs.Puts.{puts, puts-then}
 use Rattle.scheme.specs.Text.{digits, hex, sum, sizeStep, own, joined, behind, textStep, treeSize, textOf}
 use Rattle.text.specs.Parts.{bytesAt, around, lengthStep, textLength, ownAt, textAt, sizeAt, refsText, refsSize}
-use Rattle.text.proofs.Digits.{hex-length, digits-length, digits-4}
+use Rattle.text.proofs.Digits.{hex-length, digits-4}
 use Rattle.laws.specs.Passes.{Caps, sum-cut}
 use Rattle.laws.specs.Folds.{Both, value-at, value-both, both-map}
 

@@ -12,6 +12,9 @@ ghost use Rattle.text.specs.Parts.{around, lengthStep, ownAt, textAt, si
 ghost use Rattle.text.specs.Paper.{pageAt, verdictOf, Prints};
 use depth::least;
 use depth::over_refs;
+use memory::BITS_LEN;
+use memory::FIRST_REF;
+use memory::REFS_COUNT;
 use memory::field;
 use memory::put_byte;
 use memory::put_bytes;
@@ -64,11 +67,11 @@ fn sum_refs(table: &[u32], scratch: &[u32], i: usize, start: u32, cap: u32) -> u
     requires { ⌜ i ≤ length (now scratch) ⌝ }
     ensures { λ r. ⌜ r ≡ min cap (start + sum (pick 0 (now (scratch .entry)) (refsAt (now (table .entry)) i))) ⌝ }
 {
-    let k = field(table, i, 2);
+    let k = field(table, i, REFS_COUNT);
     let mut j = 0;
     let mut h = least(cap, start);
     while j < k {
-        let r = field(table, i, 3 + j);
+        let r = field(table, i, FIRST_REF + j);
         let x = scratch[r];
         if x < cap - h {
             h += x;
@@ -119,8 +122,8 @@ fn length_alone(table: &[u32], i: usize) -> u32
     requires { ⌜ RecordOk (now table) i ⌝ }
     ensures { λ r. ⌜ ((d : List ℕ) → i * 128 + 128 ≤ length d → r ≡ length (ownAt (now (table .entry)) d i) + around (getD (now (table .entry)) (i * 7 + 2) 0)) ⌝ }
 {
-    let len = field(table, i, 1);
-    let k = field(table, i, 2);
+    let len = field(table, i, BITS_LEN);
+    let k = field(table, i, REFS_COUNT);
     let own = width(len) + 3 + 2 * ((len + 7) / 8) + 1;
     if k == 0 {
         own as u32
@@ -199,7 +202,7 @@ fn put_own(table: &[u32], bytes: &[u8], out: &mut [u8], at: usize, n: usize) -> 
     ensures next { λ r. ⌜ r ≡ at + length (ownAt (now (table .entry)) (now (bytes .entry)) n) ⌝ }
     ensures put { λ _. ⌜ now (out .exit) ≡ puts (now (out .entry)) at (ownAt (now (table .entry)) (now (bytes .entry)) n) ⌝ }
 {
-    let len = field(table, n, 1);
+    let len = field(table, n, BITS_LEN);
     let a = put_decimal(out, at, len);
     let b = put_bytes(b"[0x", out, a);
     let from = n * DATA_LEN;
@@ -223,7 +226,7 @@ fn print_cell(table: &[u32], bytes: &[u8], out: &mut [u8], at: usize, n: usize) 
     ensures put { λ _. ⌜ now (out .exit) ≡ puts (now (out .entry)) at (textAt (now (table .entry)) (now (bytes .entry)) n) ⌝ }
 {
     let a = put_own(table, bytes, out, at, n);
-    let k = field(table, n, 2);
+    let k = field(table, n, REFS_COUNT);
     if k == 0 {
         return Walked { next: a, cells: 1 };
     }
@@ -245,9 +248,9 @@ fn print_refs(table: &[u32], bytes: &[u8], out: &mut [u8], at: usize, n: usize, 
     ensures count { λ r. ⌜ r .cells ≡ refsSize (now (table .entry)) (now (bytes .entry)) n j ⌝ }
     ensures put { λ _. ⌜ now (out .exit) ≡ puts (now (out .entry)) at (refsText (now (table .entry)) (now (bytes .entry)) n j) ⌝ }
 {
-    let r = field(table, n, 3 + j);
+    let r = field(table, n, FIRST_REF + j);
     let p = print_cell(table, bytes, out, at, r);
-    let k = field(table, n, 2);
+    let k = field(table, n, REFS_COUNT);
     if k <= j + 1 {
         return p;
     }

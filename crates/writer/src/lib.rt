@@ -15,6 +15,10 @@ ghost use Rattle.writer.specs.Bytes.{cellSize, sizes, indexOf, placesOf,
 ghost use Rattle.writer.specs.Bag.{indexIf, bodyOf, checksumOf, sealedOf, neededOf};
 ghost use Rattle.writer.specs.Paper.{Writes, Serialized};
 use crc32c::crc32c;
+use memory::BITS_LEN;
+use memory::EXOTIC;
+use memory::FIRST_REF;
+use memory::REFS_COUNT;
 use memory::entry;
 use memory::field;
 use memory::put_byte;
@@ -34,14 +38,6 @@ const GENERIC_BOC_TAG: usize = 0xb5ee_9c72;
 const CRC_LEN: usize = 4;
 // Scratch entries for each stored cell.
 const SCRATCH_LEN: usize = 4;
-// The numbers of a record: the flag, the bits, how many references there are, and the first of them.
-const EXOTIC: usize = 0;
-
-const BITS_LEN: usize = 1;
-
-const REFS_COUNT: usize = 2;
-
-const FIRST_REF: usize = 3;
 // The level that is written for every cell.
 const LEVEL: usize = 0;
 

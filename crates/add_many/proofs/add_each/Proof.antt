@@ -1,26 +1,35 @@
 -- `add_many::add_each` meets its contract. The loop's invariant: the store is sound, and what is left, from here, comes to what all come to. Assumes nothing.
 use Prim.Native.Nat.{_≤_, _-_}
-use mathlib.Core.Path.{_≡_, refl, sym, _∙_}
+use mathlib.Core.Path.{_≡_, refl, _∙_}
 use mathlib.Core.Bool.{true}
 use native.Mathlib.Omega.{arith}
 use lib.ListN.{length, length-set}
 use borrow.Author.Needs.{needs}
 use Rattle.scheme.specs.Memory.{sound}
-use Rattle.add_many.specs.Many.{many, builderAt}
+use Rattle.add_many.specs.Many.{many}
 use Rattle.add_many.proofs.Turn.{adds-as, turn-next, turn-sound, turn-small, turn-stop, many-is, many-start, many-end}
 use Rattle.add_many.proofs.add_each.Statement.{statement}
 use Rattle.add_many.proofs.add_each.Tie as tie
 
 abbrev Inv-loop : tie.InvT-loop
-Inv-loop count₀ table₀ bytes₀ heads blocks k numbers₀ i₀ count table bytes numbers i = (i ≤ k) × (length table ≡ length table₀) × (length bytes ≡ length bytes₀) × (length numbers ≡ length numbers₀) × (sound count table bytes ≡ true) × (many heads blocks (k - i) i count table bytes numbers ≡ many heads blocks k 0 count₀ table₀ bytes₀ numbers₀)
+Inv-loop count₀ table₀ bytes₀ heads blocks k numbers₀ i₀ count table bytes numbers i = (i ≤ k) × (length table ≡ length table₀) × (length bytes ≡ length bytes₀) ×
+    (length numbers ≡ length numbers₀) × (sound count table bytes ≡ true) × (many heads blocks
+    (k - i) i count table bytes numbers ≡ many heads blocks k 0 count₀ table₀ bytes₀ numbers₀)
 
 abbrev μ-loop : tie.MeasureT-loop
 μ-loop count₀ table₀ bytes₀ heads blocks k numbers₀ i₀ count table bytes numbers i = k - i
 
 loop-holds : tie.Need-loop-holds Inv-loop μ-loop
 loop-holds c =
-    let a = c .before .before .before .before .before .args in
-    (omega arith, refl, refl, refl, c .before .before .before .before .before .pre .0, many-start (a .heads .now) (a .blocks .now) (a .k) (a .count .now) (a .table .now) (a .bytes .now) (a .numbers .now))
+    let a = c .before .before .before .before .before .args in (
+      omega arith,
+      refl,
+      refl,
+      refl,
+      c .before .before .before .before .before .pre .0,
+      many-start (a .heads .now) (a .blocks .now) (a .k) (a .count .now) (a .table .now)
+          (a .bytes .now) (a .numbers .now),
+    )
 
 cell-at-requires : tie.Need-cell-at-requires Inv-loop μ-loop
 cell-at-requires c κs = omega arith
@@ -35,7 +44,10 @@ cast-numbers : tie.Need-cast-numbers Inv-loop μ-loop
 cast-numbers c =
     let a = c .before .before .before .before .before .before .before .before .before .before .before .before .before .before .before .before .before .before .before .args in
     let l = c .before .before .before .before .before .before .before .before .before .before .before .before .before .loop in
-    let z = turn-small (a .heads .now) (a .blocks .now) (a .k) (l .i) (l .count) (l .table) (l .bytes) (l .numbers) _ (c .before .before .before .before .before .before .before .before .before .before .before .before .loop-test .taken) (l .inv .5) _ _ _ _ (adds-as _ _ _ _ _ _ _ _ _ _ (c .before .before .before .before .before .before .before .before .cell-at .ensures) (c .before .added .given .1) (c .before .before .before .before .before .before .before .add-in .ensures)) (l .inv .4) in
+    let z = turn-small (a .heads .now) (a .blocks .now) (a .k) (l .i) (l .count) (l .table) (l .bytes) (l .numbers) _
+    (c .before .before .before .before .before .before .before .before .before .before .before .before .loop-test .taken) (l .inv .5) _ _ _ _
+    (adds-as _ _ _ _ _ _ _ _ _ _ (c .before .before .before .before .before .before .before .before .cell-at .ensures) (c .before .added .given .1)
+    (c .before .before .before .before .before .before .before .add-in .ensures)) (l .inv .4) in
     omega arith
 
 mul-numbers : tie.Need-mul-numbers Inv-loop μ-loop
@@ -48,10 +60,12 @@ enum-known-added-2 : tie.Need-enum-known-added-2 Inv-loop μ-loop
 enum-known-added-2 c = search needs
 
 same-length : tie.Need-same-length Inv-loop μ-loop
-same-length c = c .before .before .before .before .before .before .before .add-in .kept .1 .0 ∙ c .before .before .before .before .before .before .before .before .before .before .before .before .before .loop .inv .1
+same-length c = c .before .before .before .before .before .before .before .add-in .kept .1 .0
+    ∙ c .before .before .before .before .before .before .before .before .before .before .before .before .before .loop .inv .1
 
 same-length-2 : tie.Need-same-length-2 Inv-loop μ-loop
-same-length-2 c = c .before .before .before .before .before .before .before .add-in .kept .1 .1 .0 ∙ c .before .before .before .before .before .before .before .before .before .before .before .before .before .loop .inv .2
+same-length-2 c = c .before .before .before .before .before .before .before .add-in .kept .1 .1 .0
+    ∙ c .before .before .before .before .before .before .before .before .before .before .before .before .before .loop .inv .2
 
 same-length-3 : tie.Need-same-length-3 Inv-loop μ-loop
 same-length-3 c = c .before .before .before .before .before .before .before .before .before .before .before .before .before .loop .inv .3
@@ -61,7 +75,10 @@ returns c =
     let a = c .before .before .before .before .before .before .before .before .before .before .before .before .before .before .before .before .before .before .before .args in
     let l = c .before .before .before .before .before .before .before .before .before .before .before .before .before .loop in
     many-is (a .heads .now) (a .blocks .now) (a .k) (a .count .now) (a .table .now) (a .bytes .now) (a .numbers .now) _ _ _ _ _
-    (turn-stop (a .heads .now) (a .blocks .now) (a .k) (l .i) (l .count) (l .table) (l .bytes) (l .numbers) _ (c .before .before .before .before .before .before .before .before .before .before .before .before .loop-test .taken) (l .inv .5) _ _ _ _ (adds-as _ _ _ _ _ _ _ _ _ _ (c .before .before .before .before .before .before .before .before .cell-at .ensures) (c .before .added2 .given .1) (c .before .before .before .before .before .before .before .add-in .ensures)))
+    (turn-stop (a .heads .now) (a .blocks .now) (a .k) (l .i) (l .count) (l .table) (l .bytes) (l .numbers) _
+    (c .before .before .before .before .before .before .before .before .before .before .before .before .loop-test .taken) (l .inv .5) _ _ _ _
+    (adds-as _ _ _ _ _ _ _ _ _ _ (c .before .before .before .before .before .before .before .before .cell-at .ensures) (c .before .added2 .given .1)
+    (c .before .before .before .before .before .before .before .add-in .ensures)))
 
 add-i : tie.Need-add-i Inv-loop μ-loop
 add-i c = omega arith
@@ -73,13 +90,16 @@ loop-again : tie.Need-loop-again Inv-loop μ-loop
 loop-again c =
     let a = c .before .before .before .before .before .before .before .before .before .before .before .before .before .before .before .before .before .before .before .args in
     let l = c .before .before .before .before .before .before .before .before .before .before .before .before .before .loop in
-    let d = adds-as _ _ _ _ _ _ _ _ _ _ (c .before .before .before .before .before .before .before .before .cell-at .ensures) (c .before .added .given .1) (c .before .before .before .before .before .before .before .add-in .ensures) in (
+    let d = adds-as _ _ _ _ _ _ _ _ _ _ (c .before .before .before .before .before .before .before .before .cell-at .ensures) (c .before .added .given .1)
+    (c .before .before .before .before .before .before .before .add-in .ensures) in (
       omega arith,
       c .before .before .before .before .before .before .before .add-in .kept .1 .0 ∙ l .inv .1,
       c .before .before .before .before .before .before .before .add-in .kept .1 .1 .0 ∙ l .inv .2,
       simp length-set (l .inv .3),
-      turn-sound (a .heads .now) (a .blocks .now) (a .k) (l .i) (l .count) (l .table) (l .bytes) (l .numbers) _ (c .before .before .before .before .before .before .before .before .before .before .before .before .loop-test .taken) (l .inv .5) _ _ _ _ d (l .inv .4) (omega arith),
-      turn-next (a .heads .now) (a .blocks .now) (a .k) (l .i) (l .count) (l .table) (l .bytes) (l .numbers) _ (c .before .before .before .before .before .before .before .before .before .before .before .before .loop-test .taken) (l .inv .5) _ _ _ _ d,
+      turn-sound (a .heads .now) (a .blocks .now) (a .k) (l .i) (l .count) (l .table) (l .bytes) (l .numbers) _
+          (c .before .before .before .before .before .before .before .before .before .before .before .before .loop-test .taken) (l .inv .5) _ _ _ _ d (l .inv .4) (omega arith),
+      turn-next (a .heads .now) (a .blocks .now) (a .k) (l .i) (l .count) (l .table) (l .bytes) (l .numbers) _
+          (c .before .before .before .before .before .before .before .before .before .before .before .before .loop-test .taken) (l .inv .5) _ _ _ _ d,
     )
 
 same-length-4 : tie.Need-same-length-4 Inv-loop μ-loop

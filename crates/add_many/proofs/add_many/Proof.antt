@@ -13,7 +13,8 @@ cells-in-requires c κs = search needs
 returns : tie.Need-returns
 returns c =
     let a = c .before .before .before .before .before .before .before .args in
-    many-as (a .heads .now) (a .blocks .now) _ _ (a .count .now) (a .table .now) (a .bytes .now) (a .numbers .now) _ _ _ _ _ (c .before .cells-in .ensures) (many-none (a .heads .now) (a .blocks .now) (c .before .cells-in .result) (a .count .now) (a .table .now) (a .bytes .now) (a .numbers .now) (c .if1 .taken))
+    many-as (a .heads .now) (a .blocks .now) _ _ (a .count .now) (a .table .now) (a .bytes .now) (a .numbers .now) _ _ _ _ _ (c .before .cells-in .ensures)
+    (many-none (a .heads .now) (a .blocks .now) (c .before .cells-in .result) (a .count .now) (a .table .now) (a .bytes .now) (a .numbers .now) (c .if1 .taken))
 
 is-sound-requires : tie.Need-is-sound-requires
 is-sound-requires c κs = search needs
@@ -27,11 +28,19 @@ same-length-2 c = search needs
 returns-2 : tie.Need-returns-2
 returns-2 c =
     let a = c .before .before .before .before .before .before .before .before .before .before .before .before .args in
-    many-as (a .heads .now) (a .blocks .now) _ _ (a .count .now) (a .table .now) (a .bytes .now) (a .numbers .now) _ _ _ _ _ (c .before .before .before .before .before .before .cells-in .ensures)
-    (many-store (a .heads .now) (a .blocks .now) (c .before .before .before .before .before .before .cells-in .result) (a .count .now) (a .table .now) (a .bytes .now) (a .numbers .now) (c .before .before .before .before .before .if1 .left) (sym (c .before .is-sound .ensures) ∙ not-true _ (c .if2 .taken)))
+    many-as (a .heads .now) (a .blocks .now) _ _ (a .count .now) (a .table .now) (a .bytes .now) (a .numbers .now) _ _ _ _ _
+    (c .before .before .before .before .before .before .cells-in .ensures)
+    (many-store (a .heads .now) (a .blocks .now) (c .before .before .before .before .before .before .cells-in .result) (a .count .now) (a .table .now) (a .bytes .now)
+    (a .numbers .now) (c .before .before .before .before .before .if1 .left) (sym (c .before .is-sound .ensures) ∙ not-true _ (c .if2 .taken)))
 
 add-each-requires : tie.Need-add-each-requires
-add-each-requires c κs = (sym (c .before .before .before .before .before .is-sound .ensures) ∙ not-false _ (c .before .before .before .before .if2 .left), cells-fit (length (c .before .before .before .before .before .before .before .before .before .before .before .before .before .before .before .before .args .heads .now)) (length (c .before .before .before .before .before .before .before .before .before .before .before .before .before .before .before .before .args .blocks .now)) (length (c .before .before .before .before .before .before .before .before .before .before .before .before .before .before .before .before .args .numbers .now)) (c .before .before .before .before .before .before .before .before .before .before .cells-in .result) (c .before .before .before .before .before .before .before .before .before .before .cells-in .ensures))
+add-each-requires c κs = (
+  sym (c .before .before .before .before .before .is-sound .ensures) ∙ not-false _ (c .before .before .before .before .if2 .left),
+  cells-fit
+      (length (c .before .before .before .before .before .before .before .before .before .before .before .before .before .before .before .before .args .heads .now))
+      (length (c .before .before .before .before .before .before .before .before .before .before .before .before .before .before .before .before .args .blocks .now))
+      (length (c .before .before .before .before .before .before .before .before .before .before .before .before .before .before .before .before .args .numbers .now)) (c .before .before .before .before .before .before .before .before .before .before .cells-in .result) (c .before .before .before .before .before .before .before .before .before .before .cells-in .ensures),
+)
 
 same-length-3 : tie.Need-same-length-3
 same-length-3 c = search needs
@@ -45,7 +54,9 @@ same-length-5 c = search needs
 returns-3 : tie.Need-returns-3
 returns-3 c =
     let a = c .before .before .before .before .before .before .before .before .before .before .before .before .before .before .before .before .before .before .before .before .before .before .before .args in
-    many-as (a .heads .now) (a .blocks .now) _ _ (a .count .now) (a .table .now) (a .bytes .now) (a .numbers .now) _ _ _ _ _ (c .before .before .before .before .before .before .before .before .before .before .before .before .before .before .before .before .before .cells-in .ensures) (c .before .before .before .before .before .before .add-each .ensures)
+    many-as (a .heads .now) (a .blocks .now) _ _ (a .count .now) (a .table .now) (a .bytes .now) (a .numbers .now) _ _ _ _ _
+    (c .before .before .before .before .before .before .before .before .before .before .before .before .before .before .before .before .before .cells-in .ensures)
+    (c .before .before .before .before .before .before .add-each .ensures)
 
 pub add-many-spec : {M : Type 1} → statement M
 add-many-spec =

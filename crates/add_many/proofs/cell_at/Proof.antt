@@ -1,8 +1,7 @@
 -- `add_many::cell_at` meets its contract. Assumes nothing.
 use Prim.Native.Nat.{ℕ, _*_}
-use mathlib.Core.Path.{_≡_}
 use native.Mathlib.Omega.{arith}
-use lib.ListN.{length, replicate, length-replicate}
+use lib.ListN.{replicate, length-replicate}
 use Rattle.add_many.proofs.Turn.{block-copied, builder-is}
 use borrow.Author.Needs.{needs}
 use Rattle.add_many.proofs.cell_at.Statement.{statement}
@@ -83,7 +82,9 @@ shared-slice-read-t35 c = search needs
 returns : tie.Need-returns
 returns c =
     let a = c .before .before .before .before .before .before .before .before .before .before .before .before .before .args in
-    builder-is (a .heads .now) (a .blocks .now) (a .i) _ _ _ (block-copied (a .blocks .now) (replicate 128 0) _ (a .i * 128) (omega arith) (length-replicate {A = ℕ} 128 0) (c .before .before .before .before .before .before .before .before .put-bytes .ensures .1)) (c .before .before .before .before .before .field .ensures) (c .before .before .before .before .field2 .ensures)
+    builder-is (a .heads .now) (a .blocks .now) (a .i) _ _ _ (block-copied (a .blocks .now) (replicate 128 0) _ (a .i * 128) (omega arith)
+    (length-replicate {A = ℕ} 128 0) (c .before .before .before .before .before .before .before .before .put-bytes .ensures .1))
+    (c .before .before .before .before .before .field .ensures) (c .before .before .before .before .field2 .ensures)
 
 pub cell-at-spec : {M : Type 1} → statement M
 cell-at-spec =

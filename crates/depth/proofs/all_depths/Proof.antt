@@ -1,7 +1,7 @@
 -- `depth::all_depths` meets its contract. Assumes nothing.
-use Prim.Native.Nat.{ℕ, _≤_, _<_, _-_, _+_, _*_, min}
-use mathlib.Core.Path.{_≡_, refl, ap, sym, _∙_}
-use mathlib.Core.List.{List, _++_, map}
+use Prim.Native.Nat.{_≤_, _-_, _+_, min}
+use mathlib.Core.Path.{_≡_, refl, _∙_}
+use mathlib.Core.List.{_++_, map}
 use native.Mathlib.Omega.{arith}
 use lib.ListN.{length, drop, length-set}
 use Rattle.scheme.specs.Memory.{cellAt}
@@ -9,12 +9,8 @@ use Rattle.scheme.specs.Fold.{below}
 use Rattle.scheme.specs.Depth.{depthStep}
 use Rattle.laws.specs.Passes.{pass-turn}
 use Rattle.depth.proofs.Prunes.{caps-depth}
-use borrow.Author.Needs.{needs}
 use Rattle.depth.proofs.all_depths.Statement.{statement}
 use Rattle.depth.proofs.all_depths.Tie as tie
-use Rattle.depth.proofs.all_depths.Reads as reads
-use Rattle.depth.proofs.all_depths.Lts as lts
-use Rattle.depth.proofs.depth_step.Reads as depth-step-reads
 
 abbrev Inv-loop : tie.InvT-loop
 Inv-loop table bytes n cap scratch₀ i₀ scratch i = (i ≤ n) × (length scratch ≡ length scratch₀) × (scratch ≡ map (min cap) (below depthStep 0 (cellAt table bytes) i) ++ drop i scratch₀)

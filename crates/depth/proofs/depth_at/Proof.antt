@@ -1,12 +1,10 @@
 -- `depth::depth_at` meets its contract: each test in its order. Assumes nothing.
 use Prim.Native.Nat.{_≤_, _<_, _+_}
-use mathlib.Core.Path.{_≡_, sym, _∙_}
+use mathlib.Core.Path.{sym, _∙_}
 use native.Mathlib.Omega.{arith}
-use mathlib.Core.Bool.{true}
-use lib.ListN.{length, drop, getD}
+use lib.ListN.{length, drop}
 use borrow.Author.Needs.{needs}
 use borrow.Author.Tests.{not-true, not-false}
-use Rattle.scheme.specs.Memory.{sound}
 use Rattle.scheme.specs.Depth.{depthStep}
 use Rattle.laws.specs.Records.{sound-cells}
 use Rattle.laws.specs.Passes.{cut-last}
@@ -14,10 +12,6 @@ use Rattle.depth.proofs.Prunes.{caps-depth}
 use Rattle.depth.proofs.Measuring.{no-store, no-cell, no-scratch, too-deep, levels}
 use Rattle.depth.proofs.depth_at.Statement.{statement}
 use Rattle.depth.proofs.depth_at.Tie as tie
-use Rattle.depth.proofs.depth_at.Reads as reads
-use Rattle.depth.proofs.depth_at.Lts as lts
-use Rattle.depth.proofs.all_depths.Reads as all-depths-reads
-use Rattle.sound.proofs.is_sound.Reads as is-sound-reads
 
 is-sound-requires : tie.Need-is-sound-requires
 is-sound-requires c κs = search needs

@@ -5,11 +5,6 @@ use Rattle.depth.proofs.Prunes.{step-is, step-not}
 use borrow.Author.Needs.{needs}
 use Rattle.depth.proofs.depth_step.Statement.{statement}
 use Rattle.depth.proofs.depth_step.Tie as tie
-use Rattle.depth.proofs.depth_step.Reads as reads
-use Rattle.depth.proofs.depth_step.Lts as lts
-use Rattle.depth.proofs.least.Reads as least-reads
-use Rattle.depth.proofs.over_refs.Reads as over-refs-reads
-use Rattle.depth.proofs.pruned_at.Reads as pruned-at-reads
 
 pruned-at-requires : tie.Need-pruned-at-requires
 pruned-at-requires c κs = search needs

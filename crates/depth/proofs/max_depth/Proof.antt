@@ -5,10 +5,6 @@ use borrow.Author.Needs.{needs}
 use Rattle.scheme.specs.Calls.{measuring}
 use Rattle.depth.proofs.max_depth.Statement.{statement}
 use Rattle.depth.proofs.max_depth.Tie as tie
-use Rattle.depth.proofs.max_depth.Reads as reads
-use Rattle.depth.proofs.max_depth.Lts as lts
-use Rattle.depth.proofs.depth_at.Reads as depth-at-reads
-use Rattle.memory.proofs.zero_numbers.Reads as zero-numbers-reads
 
 depth-at-requires : tie.Need-depth-at-requires
 depth-at-requires c κs = search needs

@@ -1,18 +1,16 @@
 -- `depth::over_refs` meets its contract. The invariant: what is left of the references goes on from h. Assumes nothing.
 use Prim.Native.Nat.{ℕ, _≤_, _<_, _-_, _+_, _*_, min, max}
-use mathlib.Core.Path.{_≡_, refl, ap, sym, _∙_}
-use mathlib.Core.List.{List, _∷_, []}
+use mathlib.Core.Path.{_≡_, ap}
+use mathlib.Core.List.{List}
 use mathlib.Core.Logic.{⊎-elim}
 use borrow.Author.Needs.{needs}
 use native.Mathlib.Omega.{arith}
-use lib.ListN.{length, drop, getD}
+use lib.ListN.{drop, getD}
 use Rattle.laws.specs.Records.{refsAt, RecordOk, refs-cons, refs-end}
 use Rattle.scheme.specs.Fold.{pick}
 use Rattle.scheme.specs.Depth.{over}
 use Rattle.depth.proofs.over_refs.Statement.{statement}
 use Rattle.depth.proofs.over_refs.Tie as tie
-use Rattle.depth.proofs.over_refs.Reads as reads
-use Rattle.depth.proofs.over_refs.Lts as lts
 
 -- what the references from j on give
 abbrev left : List ℕ → List ℕ → ℕ → ℕ → ℕ

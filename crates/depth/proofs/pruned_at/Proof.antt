@@ -10,10 +10,6 @@ use Rattle.depth.proofs.Prunes.{not-exotic, not-long, not-first, not-wh
 use borrow.Author.Needs.{needs}
 use Rattle.depth.proofs.pruned_at.Statement.{statement}
 use Rattle.depth.proofs.pruned_at.Tie as tie
-use Rattle.depth.proofs.pruned_at.Reads as reads
-use Rattle.depth.proofs.pruned_at.Lts as lts
-use Rattle.depth.proofs.wide.Reads as wide-reads
-use Rattle.memory.proofs.field.Reads as field-reads
 
 field-requires : tie.Need-field-requires
 field-requires c κs = search needs

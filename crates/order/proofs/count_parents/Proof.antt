@@ -4,6 +4,7 @@ use mathlib.Core.Path.{_≡_, refl, sym, _∙_}
 use mathlib.Core.List.{[]}
 use native.Mathlib.Omega.{arith}
 use lib.ListN.{length}
+use borrow.Author.Needs.{needs}
 use Rattle.laws.specs.Counts.{countDown}
 use Rattle.laws.specs.Records.{refsAt, refs-length}
 use Rattle.order.specs.Queue.{kidsAt, Small}
@@ -33,7 +34,9 @@ sub-i : tie.Need-sub-i Inv-loop μ-loop
 sub-i c = omega arith
 
 mul-if1 : tie.Need-mul-if1 Inv-loop μ-loop
-mul-if1 c = omega (arith, c .before .before .before .before .before .before .before .before .good)
+mul-if1 c =
+    let s : tie.Start Inv-loop μ-loop = search needs in
+    omega (arith, s .good)
 
 slice-read-if1 : tie.Need-slice-read-if1 Inv-loop μ-loop
 slice-read-if1 c = omega (arith, c .before .before .before .before .before .count-refs .kept .1 .1 .0)

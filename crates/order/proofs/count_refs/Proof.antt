@@ -6,6 +6,7 @@ use mathlib.Core.List.{[]}
 use native.Mathlib.Omega.{arith}
 use borrow.Author.Tests.{not-true, not-false}
 use lib.ListN.{length, drop, getD, length-set}
+use borrow.Author.Needs.{needs}
 use Rattle.laws.specs.Counts.{bump}
 use Rattle.laws.specs.Records.{refsAt, refs-end}
 use Rattle.order.specs.Queue.{seenAt, Small}
@@ -33,7 +34,9 @@ field-requires-2 : tie.Need-field-requires-2 Inv-loop μ-loop
 field-requires-2 c κs = (omega arith, omega arith)
 
 named-requires : tie.Need-named-requires Inv-loop μ-loop
-named-requires c κs = (c .before .before .before .before .before .before .pre .0, omega arith)
+named-requires c κs =
+    let s : tie.Start Inv-loop μ-loop = search needs in
+    (s .pre .0, omega arith)
 
 mul-scratch : tie.Need-mul-scratch Inv-loop μ-loop
 mul-scratch c =

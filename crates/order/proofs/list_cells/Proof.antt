@@ -5,6 +5,7 @@ use mathlib.Core.List.{[], _∷_, _++_}
 use native.Mathlib.Omega.{arith}
 use lib.ListN.{length, take, getD, length-set}
 use lib.Seq.{slice}
+use borrow.Author.Needs.{needs}
 use Rattle.laws.specs.Counts.{runCounts}
 use Rattle.laws.specs.Records.{refsAt}
 use Rattle.order.specs.Queue.{kidsAt, Roomy}
@@ -45,13 +46,14 @@ entry-requires c κs = omega arith
 
 settle-requires : tie.Need-settle-requires Inv-loop μ-loop
 settle-requires c κs =
-    let a = c .before .before .before .before .before .before .before .args in
+    let s : tie.Start Inv-loop μ-loop = search needs in
+    let a = s .args in
     let l = c .before .before .before .before .loop in
     let K = kidsAt (a .table .now) (a .n) in
     let b₀ = front-below K (a .n) (l .head) (l .tail) (l .scratch) (omega arith) (omega arith) (omega arith) (omega arith) (l .inv .5) in
     let b : c .before .entry .result < a .n = omega (arith, c .before .entry .ensures) in
     let e : K (getD (l .scratch) (l .head) 0) ≡ refsAt (a .table .now) (c .before .entry .result) = rw (← (c .before .entry .ensures)) (kids-refs (a .table .now) (a .n) (c .before .entry .result) b) in
-    (c .before .before .before .before .before .before .before .pre .0 (c .before .entry .result) b, (b, (omega arith, (omega arith, front-room K (a .n) (l .head) (l .tail) (l .scratch) (omega arith) (omega arith) (omega arith) (omega arith) (l .inv .5) (refsAt (a .table .now) (c .before .entry .result)) e))))
+    (s .pre .0 (c .before .entry .result) b, (b, (omega arith, (omega arith, front-room K (a .n) (l .head) (l .tail) (l .scratch) (omega arith) (omega arith) (omega arith) (omega arith) (l .inv .5) (refsAt (a .table .now) (c .before .entry .result)) e))))
 
 add-head : tie.Need-add-head Inv-loop μ-loop
 add-head c = omega arith
@@ -88,11 +90,14 @@ sub-result : tie.Need-sub-result Inv-loop μ-loop
 sub-result c = omega arith
 
 same-length : tie.Need-same-length Inv-loop μ-loop
-same-length c = c .before .loop .inv .3 ∙ length-set (c .before .before .before .before .args .scratch .now) (c .before .before .before .before .args .n) (c .before .before .before .before .args .root)
+same-length c =
+    let s : tie.Start Inv-loop μ-loop = search needs in
+    c .before .loop .inv .3 ∙ length-set (s .args .scratch .now) (s .args .n) (s .args .root)
 
 returns : tie.Need-returns Inv-loop μ-loop
 returns c =
-    let a = c .before .before .before .before .args in
+    let s : tie.Start Inv-loop μ-loop = search needs in
+    let a = s .args in
     let l = c .before .loop in
     let K = kidsAt (a .table .now) (a .n) in
     let e : a .n + (l .tail - a .n) ≡ l .tail = omega arith in

@@ -2,6 +2,7 @@
 use Prim.Native.Nat.{_≤_}
 use mathlib.Core.Path.{_≡_, refl, sym, _∙_}
 use native.Mathlib.Omega.{arith}
+use borrow.Author.Needs.{needs}
 use Rattle.scheme.specs.Order.{memb}
 use Rattle.order.specs.Queue.{seenAt}
 use Rattle.order.proofs.Steps.{named-hit, named-on, seen-none}
@@ -28,7 +29,8 @@ field-requires c κs = (omega arith, omega arith)
 
 returns : tie.Need-returns Inv-loop μ-loop
 returns c =
-    let a = c .before .before .before .before .before .args in
+    let s : tie.Start Inv-loop μ-loop = search needs in
+    let a = s .args in
     let l = c .before .before .before .loop in
     named-hit (a .table .now) (a .i) (a .j) (a .x) (c .before .field .result) (l .k) (omega arith) (c .before .field .ensures) (c .if1 .taken) (l .inv .1)
 
@@ -37,7 +39,8 @@ loop-less c = omega arith
 
 loop-again : tie.Need-loop-again Inv-loop μ-loop
 loop-again c =
-    let a = c .before .before .before .before .before .args in
+    let s : tie.Start Inv-loop μ-loop = search needs in
+    let a = s .args in
     let l = c .before .before .before .loop in
     (omega arith, named-on (a .table .now) (a .i) (a .j) (a .x) (c .before .field .result) (l .k) (omega arith) (c .before .field .ensures) (c .if1 .left) (l .inv .1))
 

@@ -5,6 +5,7 @@ use mathlib.Core.List.{List, List·Memᴰ as Mem, List·Memᴰ·not-nil}
 use native.Mathlib.Omega.{arith}
 use lib.ListN.{length, take, getD, length-set}
 use lib.Seq.{slice, length-slice, take-all, getD-set-other}
+use borrow.Author.Needs.{needs}
 use Rattle.scheme.specs.Write.{placeOf}
 use Rattle.laws.specs.Slices.{slice-get, mem-get}
 use Rattle.order.proofs.Places.{place-turn}
@@ -44,23 +45,26 @@ mul-scratch c = omega arith
 
 add-scratch : tie.Need-add-scratch Inv-loop μ-loop
 add-scratch c =
-    let a = c .before .before .before .before .before .args in
+    let s : tie.Start Inv-loop μ-loop = search needs in
+    let a = s .args in
     let l = c .before .before .before .loop in
-    let b = small (a .scratch .now) (l .scratch) (a .n) (a .m) (l .p) (c .entry .result) (omega arith) (omega arith) (omega arith) (c .entry .ensures) (l .inv .2) (c .before .before .before .before .before .pre .1 .1 .1 .1) in
+    let b = small (a .scratch .now) (l .scratch) (a .n) (a .m) (l .p) (c .entry .result) (omega arith) (omega arith) (omega arith) (c .entry .ensures) (l .inv .2) (s .pre .1 .1 .1 .1) in
     omega arith
 
 mul-scratch-2 : tie.Need-mul-scratch-2 Inv-loop μ-loop
 mul-scratch-2 c =
-    let a = c .before .before .before .before .before .args in
+    let s : tie.Start Inv-loop μ-loop = search needs in
+    let a = s .args in
     let l = c .before .before .before .loop in
-    let b = small (a .scratch .now) (l .scratch) (a .n) (a .m) (l .p) (c .entry .result) (omega arith) (omega arith) (omega arith) (c .entry .ensures) (l .inv .2) (c .before .before .before .before .before .pre .1 .1 .1 .1) in
+    let b = small (a .scratch .now) (l .scratch) (a .n) (a .m) (l .p) (c .entry .result) (omega arith) (omega arith) (omega arith) (c .entry .ensures) (l .inv .2) (s .pre .1 .1 .1 .1) in
     omega arith
 
 slice-write-scratch : tie.Need-slice-write-scratch Inv-loop μ-loop
 slice-write-scratch c =
-    let a = c .before .before .before .before .before .args in
+    let s : tie.Start Inv-loop μ-loop = search needs in
+    let a = s .args in
     let l = c .before .before .before .loop in
-    let b = small (a .scratch .now) (l .scratch) (a .n) (a .m) (l .p) (c .entry .result) (omega arith) (omega arith) (omega arith) (c .entry .ensures) (l .inv .2) (c .before .before .before .before .before .pre .1 .1 .1 .1) in
+    let b = small (a .scratch .now) (l .scratch) (a .n) (a .m) (l .p) (c .entry .result) (omega arith) (omega arith) (omega arith) (c .entry .ensures) (l .inv .2) (s .pre .1 .1 .1 .1) in
     omega arith
 
 add-p : tie.Need-add-p Inv-loop μ-loop
@@ -71,16 +75,17 @@ loop-less c = omega arith
 
 loop-again : tie.Need-loop-again Inv-loop μ-loop
 loop-again c =
-    let a = c .before .before .before .before .before .args in
+    let s : tie.Start Inv-loop μ-loop = search needs in
+    let a = s .args in
     let l = c .before .before .before .loop in
-    let b = small (a .scratch .now) (l .scratch) (a .n) (a .m) (l .p) (c .entry .result) (omega arith) (omega arith) (omega arith) (c .entry .ensures) (l .inv .2) (c .before .before .before .before .before .pre .1 .1 .1 .1) in
+    let b = small (a .scratch .now) (l .scratch) (a .n) (a .m) (l .p) (c .entry .result) (omega arith) (omega arith) (omega arith) (c .entry .ensures) (l .inv .2) (s .pre .1 .1 .1 .1) in
     let q = listed (a .scratch .now) (l .scratch) (a .n) (a .m) (l .p) (c .entry .result) (omega arith) (omega arith) (c .entry .ensures) (l .inv .2) in
     let out = slice (a .n) (a .n + a .m) (a .scratch .now) in
     let k : l .p < length out = omega (arith, length-slice (a .n) (a .n + a .m) (a .scratch .now) (omega arith)) in (
       omega arith,
       simp length-set (l .inv .1),
       λ d h. getD-set-other (l .scratch) (2 * a .n + c .entry .result) d (l .p) 0 (λ e. omega arith) ∙ l .inv .2 d h,
-      place-turn out (l .scratch) (a .n) (l .p) (c .entry .result) (c .before .before .before .before .before .pre .1 .1 .1 .0) k q (omega arith) (l .inv .3),
+      place-turn out (l .scratch) (a .n) (l .p) (c .entry .result) (s .pre .1 .1 .1 .0) k q (omega arith) (l .inv .3),
     )
 
 same-length : tie.Need-same-length Inv-loop μ-loop

@@ -7,6 +7,7 @@ use native.Mathlib.Omega.{arith}
 use borrow.Author.Tests.{not-true, not-false}
 use lib.ListN.{length, take, drop, getD}
 use lib.Seq.{slice, slice-empty}
+use borrow.Author.Needs.{needs}
 use Rattle.laws.specs.Counts.{settle}
 use Rattle.laws.specs.Records.{refsAt, refs-end}
 use Rattle.order.specs.Queue.{seenAt, waitMem, waitEnd}
@@ -36,7 +37,9 @@ field-requires-2 : tie.Need-field-requires-2 Inv-loop μ-loop
 field-requires-2 c κs = (omega arith, omega arith)
 
 named-requires : tie.Need-named-requires Inv-loop μ-loop
-named-requires c κs = (c .before .before .before .before .before .before .pre .0, omega arith)
+named-requires c κs =
+    let s : tie.Start Inv-loop μ-loop = search needs in
+    (s .pre .0, omega arith)
 
 wait-less-requires : tie.Need-wait-less-requires Inv-loop μ-loop
 wait-less-requires c κs =

@@ -48,9 +48,10 @@ slice-aggregate-fill-numbers c = search needs
 fill-numbers-requires : tie.Need-fill-numbers-requires
 fill-numbers-requires c κs =
     let d = c .before .before .before .before .before .before in
-    let s = c .before .before .before .before .before .before .before .before .before .before .before .before .before in
+    let s = d .before .before .before .before .before .before .before in
     let p = s .pre .1 in
-    ((p .0 .0, cell d .room), ((p .0 .1, p .0 .2, cell d .within .arity), refs-inside _ (bytes d) _ _ _ (cell d) _ (now (s .args .scratch)) (now (s .args .count)) (p .1)))
+    let inside = refs-inside _ (bytes d) _ _ _ (cell d) _ (now (s .args .scratch)) (now (s .args .count)) (p .1) in
+    ((p .0 .0, cell d .room), ((p .0 .1, p .0 .2, cell d .within .arity), inside))
 
 cast-place : tie.Need-cast-place
 cast-place c = search needs
@@ -60,31 +61,34 @@ slice-aggregate-place c = search needs
 
 array-share-prefix-refs : tie.Need-array-share-prefix-refs
 array-share-prefix-refs c =
-    let d = c .before .before .before .before .before .before .before .before .before .before .before .before .before in
-    let s = c .before .before .before .before .before .before .before .before .before .before .before .before .before .before .before .before .before .before .before .before in
-    let l = refs-long _ (bytes d) _ _ _ (cell d) (now (s .args .scratch)) (s .args .cells) _ _ refl (c .before .before .before .before .before .before .fill-numbers .ensures) in
+    let k = c .before .before .before .before .before .before in
+    let d = k .before .before .before .before .before .before .before in
+    let s = d .before .before .before .before .before .before .before in
+    let l = refs-long _ (bytes d) _ _ _ (cell d) (now (s .args .scratch)) (s .args .cells) _ _ refl (k .fill-numbers .ensures) in
     rw l (cell d .within .arity)
 
 slice-aggregate-place-2 : tie.Need-slice-aggregate-place-2
 slice-aggregate-place-2 c =
-    let d = c .before .before .before .before .before .before .before .before .before .before .before .before .before .before in
-    let s = c .before .before .before .before .before .before .before .before .before .before .before .before .before .before .before .before .before .before .before .before .before in
-    let l = refs-long _ (bytes d) _ _ _ (cell d) (now (s .args .scratch)) (s .args .cells) _ _ refl (c .before .before .before .before .before .before .before .fill-numbers .ensures) in
+    let k = c .before .before .before .before .before .before .before in
+    let d = k .before .before .before .before .before .before .before in
+    let s = d .before .before .before .before .before .before .before in
+    let l = refs-long _ (bytes d) _ _ _ (cell d) (now (s .args .scratch)) (s .args .cells) _ _ refl (k .fill-numbers .ensures) in
     sym (length-take-le _ _ (rw l (cell d .within .arity)))
 
 place-requires : tie.Need-place-requires
 place-requires c κs =
-    let d = c .before .before .before .before .before .before .before .before .before .before .before .before .before .before in
-    let s = c .before .before .before .before .before .before .before .before .before .before .before .before .before .before .before .before .before .before .before .before .before in
+    let k = c .before .before .before .before .before .before .before in
+    let b = k .before .before .before .before in
+    let d = b .before .before .before in
+    let s = d .before .before .before .before .before .before .before in
     let m = now (s .args .scratch) in
     let w = cell d .within in
-    let is = c .before .before .before .before .before .before .before .before .before .before .before .copy-data .ensures in
-    let e = refs-front _ (bytes d) _ _ _ (cell d) m (s .args .cells) _ _ refl (c .before .before .before .before .before .before .before .fill-numbers .ensures) in (
+    let is = b .copy-data .ensures in
+    let e = refs-front _ (bytes d) _ _ _ (cell d) m (s .args .cells) _ _ refl (k .fill-numbers .ensures) in
+    let long = want-length _ (bytes d) _ _ _ (cell d) _ is in
+    let below = refs-below _ (bytes d) _ _ _ (cell d) m (s .args .cells) (now (s .args .count)) (s .pre .1 .1) _ e in (
       s .pre .0,
-      (
-        (w .flag, w .few, want-length _ (bytes d) _ _ _ (cell d) _ is, refs-few _ (bytes d) _ _ _ (cell d) m (s .args .cells) _ e),
-        (want-clean _ (bytes d) _ _ _ (cell d) _ is 0 [], refs-below _ (bytes d) _ _ _ (cell d) m (s .args .cells) (now (s .args .count)) (s .pre .1 .1) _ e),
-      ),
+      ((w .flag, w .few, long, refs-few _ (bytes d) _ _ _ (cell d) m (s .args .cells) _ e), (want-clean _ (bytes d) _ _ _ (cell d) _ is 0 [], below)),
     )
 
 returns : tie.Need-returns
@@ -103,12 +107,15 @@ same-length-2 c = search needs
 
 returns-2 : tie.Need-returns-2
 returns-2 c =
-    let k = c .before .before .before .before in
-    let d = c .before .before .before .before .before .before .before .before .before .before .before .before .before .before .before .before .before .before .before in
-    let s = c .before .before .before .before .before .before .before .before .before .before .before .before .before .before .before .before .before .before .before .before .before .before .before .before .before .before in
+    let p = c .before .before .before .before in
+    let k = p .before .before .before .before .before .before .before .before in
+    let b = k .before .before .before .before in
+    let d = b .before .before .before in
+    let s = d .before .before .before .before .before .before .before in
     let m = now (s .args .scratch) in
-    let e = refs-front _ (bytes d) _ _ _ (cell d) m (s .args .cells) _ _ refl (c .before .before .before .before .before .before .before .before .before .before .before .before .fill-numbers .ensures) in
-    places-as _ _ _ _ _ _ _ _ _ (cell-handed _ (bytes d) _ _ _ (cell d) _ (c .before .before .before .before .before .before .before .before .before .before .before .before .before .before .before .before .copy-data .ensures) m (s .args .cells) _ e) (k .place .ensures)
+    let e = refs-front _ (bytes d) _ _ _ (cell d) m (s .args .cells) _ _ refl (k .fill-numbers .ensures) in
+    let h = cell-handed _ (bytes d) _ _ _ (cell d) _ (b .copy-data .ensures) m (s .args .cells) _ e in
+    places-as _ _ _ _ _ _ _ _ _ h (p .place .ensures)
 
 pub place-cell-spec : {M : Type 1} → statement M
 place-cell-spec =

@@ -69,58 +69,97 @@ enum-known-r c = search needs
 
 same-length : tie.Need-same-length Inv-loop μ-loop
 same-length c =
-    let d = c .before .before .before .before .before .before .before .before .before .before .before .before .before in
+    let k = c .before .before .before .before .before .before .before in
+    let d = k .before .before .before .before .before .before in
     let h = d .before in
-    over-long _ (bytes h) _ _ _ _ _ _ (ready h) _ _ _ _ _ (low d) (turn d) _ _ _ _ (c .before .before .before .before .before .before .before .place-cell .ensures) _ (c .before .r .given .1) .0
+    let q = k .place-cell .ensures in
+    over-long _ (bytes h) _ _ _ _ _ _ (ready h) _ _ _ _ _ (low d) (turn d) _ _ _ _ q _ (c .before .r .given .1) .0
 
 same-length-2 : tie.Need-same-length-2 Inv-loop μ-loop
 same-length-2 c =
-    let d = c .before .before .before .before .before .before .before .before .before .before .before .before .before in
+    let k = c .before .before .before .before .before .before .before in
+    let d = k .before .before .before .before .before .before in
     let h = d .before in
-    over-long _ (bytes h) _ _ _ _ _ _ (ready h) _ _ _ _ _ (low d) (turn d) _ _ _ _ (c .before .before .before .before .before .before .before .place-cell .ensures) _ (c .before .r .given .1) .1
+    let q = k .place-cell .ensures in
+    over-long _ (bytes h) _ _ _ _ _ _ (ready h) _ _ _ _ _ (low d) (turn d) _ _ _ _ q _ (c .before .r .given .1) .1
 
 same-length-3 : tie.Need-same-length-3 Inv-loop μ-loop
-same-length-3 c = c .before .before .before .before .before .before .before .before .before .before .before .before .before .before .loop .inv .long
+same-length-3 c =
+    let k = c .before .before .before .before .before .before .before in
+    let h = k .before .before .before .before .before .before .before in
+    h .loop .inv .long
 
 returns : tie.Need-returns Inv-loop μ-loop
 returns c =
-    let d = c .before .before .before .before .before .before .before .before .before .before .before .before .before in
+    let k = c .before .before .before .before .before .before .before in
+    let d = k .before .before .before .before .before .before in
     let h = d .before in
-    stops _ (bytes h) _ _ _ _ _ _ (ready h) _ _ _ _ _ (h .loop .inv .long) (cell-over _ (bytes h) _ _ _ _ _ _ (ready h) _ _ _ _ _ (low d) (turn d) _ _ _ _ (c .before .before .before .before .before .before .before .place-cell .ensures) _ (c .before .r .given .1))
+    let q = k .place-cell .ensures in
+    let o = cell-over _ (bytes h) _ _ _ _ _ _ (ready h) _ _ _ _ _ (low d) (turn d) _ _ _ _ q _ (c .before .r .given .1) in
+    stops _ (bytes h) _ _ _ _ _ _ (ready h) _ _ _ _ _ (h .loop .inv .long) o
 
 enum-known-n : tie.Need-enum-known-n Inv-loop μ-loop
 enum-known-n c = search needs
 
 cast-scratch : tie.Need-cast-scratch Inv-loop μ-loop
 cast-scratch c =
-    let d = c .before .before .before .before .before .before .before .before .before .before .before .before .before in
+    let k = c .before .before .before .before .before .before .before in
+    let d = k .before .before .before .before .before .before in
     let h = d .before in
-    let n = number-low _ (bytes h) _ _ _ _ _ _ (ready h) _ _ _ _ _ (low d) (turn d) _ _ _ _ (c .before .before .before .before .before .before .before .place-cell .ensures) _ (c .before .n .given .1) in
+    let q = k .place-cell .ensures in
+    let n = number-low _ (bytes h) _ _ _ _ _ _ (ready h) _ _ _ _ _ (low d) (turn d) _ _ _ _ q _ (c .before .n .given .1) in
     omega arith
 
 sub-scratch : tie.Need-sub-scratch Inv-loop μ-loop
-sub-scratch c = let d = c .before .before .before .before .before .before .before .before .before .before .before .before .before in omega (arith, d .loop-test)
+sub-scratch c =
+    let k = c .before .before .before .before .before .before .before in
+    let d = k .before .before .before .before .before .before in
+    let h = d .before in
+    omega (arith, d .loop-test)
 
 add-scratch : tie.Need-add-scratch Inv-loop μ-loop
-add-scratch c = let h = c .before .before .before .before .before .before .before .before .before .before .before .before .before .before in omega (arith, h .loop .inv .within, ready h .few)
+add-scratch c =
+    let k = c .before .before .before .before .before .before .before in
+    let d = k .before .before .before .before .before .before in
+    let h = d .before in
+    omega (arith, h .loop .inv .within, ready h .few)
 
 mul-scratch : tie.Need-mul-scratch Inv-loop μ-loop
-mul-scratch c = let h = c .before .before .before .before .before .before .before .before .before .before .before .before .before .before in omega (arith, h .loop .inv .within, ready h .few)
+mul-scratch c =
+    let k = c .before .before .before .before .before .before .before in
+    let d = k .before .before .before .before .before .before in
+    let h = d .before in
+    omega (arith, h .loop .inv .within, ready h .few)
 
 slice-write-scratch : tie.Need-slice-write-scratch Inv-loop μ-loop
-slice-write-scratch c = let h = c .before .before .before .before .before .before .before .before .before .before .before .before .before .before in let e = low (c .before .before .before .before .before .before .before .before .before .before .before .before .before) in omega (arith, h .loop .inv .long, ready h .room)
+slice-write-scratch c =
+    let k = c .before .before .before .before .before .before .before in
+    let d = k .before .before .before .before .before .before in
+    let h = d .before in
+    let e = low d in
+    omega (arith, h .loop .inv .long, ready h .room)
 
 sub-i : tie.Need-sub-i Inv-loop μ-loop
-sub-i c = let d = c .before .before .before .before .before .before .before .before .before .before .before .before .before in omega (arith, d .loop-test)
+sub-i c =
+    let k = c .before .before .before .before .before .before .before in
+    let d = k .before .before .before .before .before .before in
+    let h = d .before in
+    omega (arith, d .loop-test)
 
 loop-less : tie.Need-loop-less Inv-loop μ-loop
-loop-less c = let d = c .before .before .before .before .before .before .before .before .before .before .before .before .before in omega (arith, d .loop-test)
+loop-less c =
+    let k = c .before .before .before .before .before .before .before in
+    let d = k .before .before .before .before .before .before in
+    let h = d .before in
+    omega (arith, d .loop-test)
 
 loop-again : tie.Need-loop-again Inv-loop μ-loop
 loop-again c =
-    let d = c .before .before .before .before .before .before .before .before .before .before .before .before .before in
+    let k = c .before .before .before .before .before .before .before in
+    let d = k .before .before .before .before .before .before in
     let h = d .before in
-    cell-placed _ (bytes h) _ _ _ _ _ _ (ready h) _ _ _ _ _ (low d) (turn d) _ _ _ _ (c .before .before .before .before .before .before .before .place-cell .ensures) _ (c .before .n .given .1)
+    let q = k .place-cell .ensures in
+    cell-placed _ (bytes h) _ _ _ _ _ _ (ready h) _ _ _ _ _ (low d) (turn d) _ _ _ _ q _ (c .before .n .given .1)
 
 same-length-4 : tie.Need-same-length-4 Inv-loop μ-loop
 same-length-4 c = let h = c .before in table-long _ (bytes h) _ _ _ _ _ _ (ready h) _ _ _ _ _ (h .loop .inv)

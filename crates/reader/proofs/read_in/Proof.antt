@@ -31,11 +31,15 @@ enum-known-o c = search needs
 
 store-bag-requires : tie.Need-store-bag-requires
 store-bag-requires c κs =
-    let s = sym (c .before .before .before .before .before .before .before .before .before .before .before .before .before .is-sound .ensures) ∙ not-false _ (c .before .before .before .before .before .before .before .before .before .before .before .before .if1 .left) in
-    let o = c .before .before .before .before .before .before .before .before .before .before .open-bag .ensures in
-    let e = c .before .before .before .before .before .before .o .given .1 in
-    let rs = now (c .before .before .before .before .before .before .before .before .before .before .before .before .before .before .before .before .before .before .before .before .before .before .args .roots) in
-    (s, (bag-kept _ _ _ _ _ _ rs s _ _ _ e o, bag-whole _ _ _ _ _ _ rs s _ _ _ e o (λ j. omega (arith, c .before .before .before .before .before .before .before .before .before .before .before .before .before .before .before .before .before .before .before .before .before .shared-slice-known .given j))))
+    let x = c .before .before .before .before .before .before in
+    let k = x .before .before .before .before in
+    let i = k .before .before in
+    let t = i .before .before .before .before .before .before .before .before .before in
+    let s = sym (i .before .is-sound .ensures) ∙ not-false _ (i .if1 .left) in
+    let o = k .open-bag .ensures in
+    let e = x .o .given .1 in
+    let rs = now (t .before .args .roots) in
+    (s, (bag-kept _ _ _ _ _ _ rs s _ _ _ e o, bag-whole _ _ _ _ _ _ rs s _ _ _ e o (λ j. omega (arith, t .shared-slice-known .given j))))
 
 same-length-3 : tie.Need-same-length-3
 same-length-3 c = search needs
@@ -48,8 +52,11 @@ same-length-5 c = search needs
 
 returns-2 : tie.Need-returns-2
 returns-2 c =
-    let s = sym (c .before .before .before .before .before .before .before .before .is-sound .ensures) ∙ not-false _ (c .before .before .before .before .before .before .before .if1 .left) in
-    bag-refused _ _ _ _ _ _ _ s _ _ _ (c .before .r .given .1) (c .before .before .before .before .before .open-bag .ensures)
+    let r = c .before in
+    let k = r .before .before .before .before in
+    let i = k .before .before in
+    let s = sym (i .before .is-sound .ensures) ∙ not-false _ (i .if1 .left) in
+    bag-refused _ _ _ _ _ _ _ s _ _ _ (r .r .given .1) (k .open-bag .ensures)
 
 same-length-6 : tie.Need-same-length-6
 same-length-6 c = search needs
@@ -65,8 +72,12 @@ same-length-9 c = search needs
 
 returns-3 : tie.Need-returns-3
 returns-3 c =
-    let s = sym (c .before .before .before .before .before .before .before .before .before .before .before .before .before .before .before .before .before .before .before .before .before .before .is-sound .ensures) ∙ not-false _ (c .before .before .before .before .before .before .before .before .before .before .before .before .before .before .before .before .before .before .before .before .before .if1 .left) in
-    bag-stored _ _ _ _ _ _ _ s _ _ _ (c .before .before .before .before .before .before .before .before .before .before .before .before .before .before .before .o .given .1) (c .before .before .before .before .before .before .before .before .before .before .before .before .before .before .before .before .before .before .before .open-bag .ensures) _ _ _ _ _ _ (c .before .before .before .before .before .before .before .before .store-bag .ensures)
+    let b = c .before .before .before .before .before .before .before .before in
+    let x = b .before .before .before .before .before .before .before in
+    let k = x .before .before .before .before in
+    let i = k .before .before in
+    let s = sym (i .before .is-sound .ensures) ∙ not-false _ (i .if1 .left) in
+    bag-stored _ _ _ _ _ _ _ s _ _ _ (x .o .given .1) (k .open-bag .ensures) _ _ _ _ _ _ (b .store-bag .ensures)
 
 pub read-in-spec : {M : Type 1} → statement M
 read-in-spec =

@@ -16,23 +16,31 @@ enum-known-r c = search needs
 
 take-back-requires : tie.Need-take-back-requires
 take-back-requires c κs =
-    let x = c .before .before .before .before .before .before .before .before .before .before .before .before .place-cells .ensures .full _ (c .before .before .before .before .r .given .1) in
-    (x .sound-is, over-more _ _ _ _ _ (c .before .before .before .before .before .before .before .before .before .before .before .before .before .before .before .before .before .before .before .before .before .before .before .pre .0) _ _ _ x)
+    let r = c .before .before .before .before in
+    let k = r .before .before .before .before .before .before .before .before in
+    let s = k .before .before .before .before .before .before .before .before .before .before .before in
+    let x = k .place-cells .ensures .full _ (r .r .given .1) in
+    (x .sound-is, over-more _ _ _ _ _ (s .pre .0) _ _ _ x)
 
 enum-told : tie.Need-enum-told
 enum-told c = search needs
 
 fill-numbers-requires : tie.Need-fill-numbers-requires
 fill-numbers-requires c κs =
-    let s = c .before .before .before .before .before .before .before .before .before .before .before .before .before .before .before .before .before .before .before .before .before in
-    let k = s .pre .1 .0 in
-    let l = c .before .before .before .before .before .before .before .before .before .before .place-cells .ensures .long in
-    ((k .size, k .list), ((k .few, omega (arith, k .scratch), k .roots), roots-inside _ _ _ _ _ (now (s .args .roots)) _ (s .pre .0) k (s .pre .1 .1)))
+    let k = c .before .before .before .before .before .before .before .before .before .before in
+    let s = k .before .before .before .before .before .before .before .before .before .before .before in
+    let o = s .pre .1 .0 in
+    let l = k .place-cells .ensures .long in
+    let inside = roots-inside _ _ _ _ _ (now (s .args .roots)) _ (s .pre .0) o (s .pre .1 .1) in
+    ((o .size, o .list), ((o .few, omega (arith, o .scratch), o .roots), inside))
 
 sub-t31 : tie.Need-sub-t31
 sub-t31 c =
-    let s = c .before .before .before .before .before .before .before .before .before .before .before .before .before .before .before .before .before .before .before .before .before .before .before .before in
-    count-grows _ _ _ _ _ (now (s .args .roots)) _ (s .pre .0) (s .pre .1 .0) (s .pre .1 .1) _ _ _ _ (c .before .before .before .before .before .before .before .before .before .before .before .before .before .place-cells .ensures .all (c .before .before .before .before .before .enum-told .given .1))
+    let e = c .before .before .before .before .before in
+    let k = e .before .before .before .before .before .before .before .before in
+    let s = k .before .before .before .before .before .before .before .before .before .before .before in
+    let p = k .place-cells .ensures .all (e .enum-told .given .1) in
+    count-grows _ _ _ _ _ (now (s .args .roots)) _ (s .pre .0) (s .pre .1 .0) (s .pre .1 .1) _ _ _ _ p
 
 same-length : tie.Need-same-length
 same-length c = search needs
@@ -45,9 +53,13 @@ same-length-3 c = search needs
 
 returns : tie.Need-returns
 returns c =
-    let s = c .before .before .before .before .before .before .before .before .before .before .before .before .before .before .before .before .before .before .before .before .before .before .before .before .before .before .before .before in
-    let k = c .before .before .before .before .before .before .before .before .before .before .before .before .before .before .before .before .before in
-    out-full _ _ _ _ _ _ _ (s .pre .0) (s .pre .1 .0) (s .pre .1 .1) _ _ _ _ (k .place-cells .ensures .full _ (c .before .before .before .before .before .before .before .before .before .r .given .1)) _ _ _ _ (c .before .before .before .before .take-back .ensures) (k .place-cells .ensures .long)
+    let b = c .before .before .before .before in
+    let r = b .before .before .before .before .before in
+    let k = r .before .before .before .before .before .before .before .before in
+    let s = k .before .before .before .before .before .before .before .before .before .before .before in
+    let x = k .place-cells .ensures in
+    let f = x .full _ (r .r .given .1) in
+    out-full _ _ _ _ _ _ _ (s .pre .0) (s .pre .1 .0) (s .pre .1 .1) _ _ _ _ f _ _ _ _ (b .take-back .ensures) (x .long)
 
 same-length-4 : tie.Need-same-length-4
 same-length-4 c = search needs
@@ -63,8 +75,12 @@ same-length-7 c = search needs
 
 returns-2 : tie.Need-returns-2
 returns-2 c =
-    let s = c .before .before .before .before .before .before .before .before .before .before .before .before .before .before .before .before .before .before .before .before .before .before .before .before in
-    out-done _ _ _ _ _ _ _ (s .pre .0) (s .pre .1 .0) (s .pre .1 .1) _ _ _ _ (c .before .before .before .before .before .before .before .before .before .before .before .before .before .place-cells .ensures .all (c .before .before .before .before .before .enum-told .given .1)) _ (c .before .before .fill-numbers .ensures)
+    let f = c .before .before in
+    let e = f .before .before .before in
+    let k = e .before .before .before .before .before .before .before .before in
+    let s = k .before .before .before .before .before .before .before .before .before .before .before in
+    let p = k .place-cells .ensures .all (e .enum-told .given .1) in
+    out-done _ _ _ _ _ _ _ (s .pre .0) (s .pre .1 .0) (s .pre .1 .1) _ _ _ _ p _ (f .fill-numbers .ensures)
 
 pub store-bag-spec : {M : Type 1} → statement M
 store-bag-spec =

@@ -22,7 +22,8 @@ sound-cells-requires : tie.Need-sound-cells-requires
 sound-cells-requires c κs = let s = sized-is _ _ (sym (c .before .before .is-sized .ensures) ∙ not-false _ (c .before .if1 .left)) in omega arith
 
 returns-3 : tie.Need-returns-3
-returns-3 c = sound-3 _ _ _ (sym (c .before .before .before .before .is-sized .ensures) ∙ not-false _ (c .before .before .before .if1 .left)) (c .before .before .if2 .left) (sym (c .before .sound-cells .ensures) ∙ not-true _ (c .if3 .taken))
+returns-3 c = sound-3 _ _ _ (sym (c .before .before .before .before .is-sized .ensures) ∙ not-false _ (c .before .before .before .if1 .left))
+    (c .before .before .if2 .left) (sym (c .before .sound-cells .ensures) ∙ not-true _ (c .if3 .taken))
 
 mul-row : tie.Need-mul-row
 mul-row c = search needs
@@ -44,17 +45,24 @@ all-zero-numbers-requires c κs = search needs
 
 returns-4 : tie.Need-returns-4
 returns-4 c =
-    sound-4 _ _ _ (sym (c .before .before .before .before .before .before .before .is-sized .ensures) ∙ not-false _ (c .before .before .before .before .before .before .if1 .left)) (c .before .before .before .before .before .if2 .left) (sym (c .before .before .before .before .sound-cells .ensures) ∙ not-false _ (c .before .before .before .if3 .left))
-    (sym (zero-rest (c .before .before .before .before .before .before .before .before .before .before .args .count * 7) (c .before .before .before .before .before .before .before .before .before .before .args .table .now) _ (c .before .all-zero-numbers .ensures)) ∙ not-true _ (c .if4 .taken))
+    sound-4 _ _ _ (sym (c .before .before .before .before .before .before .before .is-sized .ensures) ∙ not-false _
+    (c .before .before .before .before .before .before .if1 .left)) (c .before .before .before .before .before .if2 .left)
+    (sym (c .before .before .before .before .sound-cells .ensures) ∙ not-false _ (c .before .before .before .if3 .left))
+    (sym (zero-rest (c .before .before .before .before .before .before .before .before .before .before .args .count * 7)
+    (c .before .before .before .before .before .before .before .before .before .before .args .table .now) _ (c .before .all-zero-numbers .ensures)) ∙ not-true _
+    (c .if4 .taken))
 
 mul-from : tie.Need-mul-from
-mul-from c = let s = sized-is _ _ (sym (c .before .before .before .before .before .before .before .is-sized .ensures) ∙ not-false _ (c .before .before .before .before .before .before .if1 .left)) in omega arith
+mul-from c = let s = sized-is _ _ (sym (c .before .before .before .before .before .before .before .is-sized .ensures) ∙ not-false _
+    (c .before .before .before .before .before .before .if1 .left)) in omega arith
 
 sub-all-zero-bytes : tie.Need-sub-all-zero-bytes
-sub-all-zero-bytes c = let s = sized-is _ _ (sym (c .before .before .before .before .before .before .before .is-sized .ensures) ∙ not-false _ (c .before .before .before .before .before .before .if1 .left)) in omega arith
+sub-all-zero-bytes c = let s = sized-is _ _ (sym (c .before .before .before .before .before .before .before .is-sized .ensures) ∙ not-false _
+    (c .before .before .before .before .before .before .if1 .left)) in omega arith
 
 part-all-zero-bytes-start : tie.Need-part-all-zero-bytes-start
-part-all-zero-bytes-start c = let s = sized-is _ _ (sym (c .before .before .before .before .before .before .before .is-sized .ensures) ∙ not-false _ (c .before .before .before .before .before .before .if1 .left)) in omega arith
+part-all-zero-bytes-start c = let s = sized-is _ _ (sym (c .before .before .before .before .before .before .before .is-sized .ensures) ∙ not-false _
+    (c .before .before .before .before .before .before .if1 .left)) in omega arith
 
 part-all-zero-bytes-end : tie.Need-part-all-zero-bytes-end
 part-all-zero-bytes-end c = search needs
@@ -64,9 +72,14 @@ all-zero-bytes-requires c κs = search needs
 
 returns-5 : tie.Need-returns-5
 returns-5 c =
-    sound-5 _ _ _ (sym (c .before .before .before .before .before .before .before .before .before .is-sized .ensures) ∙ not-false _ (c .before .before .before .before .before .before .before .before .if1 .left)) (c .before .before .before .before .before .before .before .if2 .left) (sym (c .before .before .before .before .before .before .sound-cells .ensures) ∙ not-false _ (c .before .before .before .before .before .if3 .left))
-    (sym (zero-rest (c .before .before .before .before .before .before .before .before .before .before .before .before .args .count * 7) (c .before .before .before .before .before .before .before .before .before .before .before .before .args .table .now) _ (c .before .before .before .all-zero-numbers .ensures)) ∙ not-false _ (c .before .before .if4 .left))
-    _ (zero-rest (c .before .before .before .before .before .before .before .before .before .before .before .before .args .count * 128) (c .before .before .before .before .before .before .before .before .before .before .before .before .args .bytes .now) _ (c .all-zero-bytes .ensures))
+    sound-5 _ _ _ (sym (c .before .before .before .before .before .before .before .before .before .is-sized .ensures) ∙ not-false _
+    (c .before .before .before .before .before .before .before .before .if1 .left)) (c .before .before .before .before .before .before .before .if2 .left)
+    (sym (c .before .before .before .before .before .before .sound-cells .ensures) ∙ not-false _ (c .before .before .before .before .before .if3 .left))
+    (sym (zero-rest (c .before .before .before .before .before .before .before .before .before .before .before .before .args .count * 7)
+    (c .before .before .before .before .before .before .before .before .before .before .before .before .args .table .now) _
+    (c .before .before .before .all-zero-numbers .ensures)) ∙ not-false _ (c .before .before .if4 .left))
+    _ (zero-rest (c .before .before .before .before .before .before .before .before .before .before .before .before .args .count * 128)
+    (c .before .before .before .before .before .before .before .before .before .before .before .before .args .bytes .now) _ (c .all-zero-bytes .ensures))
 
 pub is-sound-spec : {M : Type 1} → statement M
 is-sound-spec =

@@ -1,8 +1,6 @@
 -- `sound::sound_cell` meets its contract. Assumes nothing.
-use Prim.Native.Nat.{_*_}
-use native.Mathlib.Omega.{arith}
 use borrow.Author.Tests.{not-true, not-false}
-use Rattle.sound.proofs.Laws.{cell-1, cell-2, cell-3, cell-4, cell-5, part-length}
+use Rattle.sound.proofs.Laws.{cell-1, cell-2, cell-3, cell-4, cell-5}
 use borrow.Author.Needs.{needs}
 use Rattle.sound.proofs.sound_cell.Statement.{statement}
 use Rattle.sound.proofs.sound_cell.Tie as tie
@@ -23,13 +21,16 @@ field-requires-3 : tie.Need-field-requires-3
 field-requires-3 c κs = search needs
 
 returns-3 : tie.Need-returns-3
-returns-3 c = cell-3 _ _ _ _ (c .before .before .before .before .before .field .ensures) (c .before .before .before .before .if1 .left) _ (c .before .before .before .field2 .ensures) (c .before .before .if2 .left) _ (c .before .field3 .ensures) (c .if3 .taken)
+returns-3 c = cell-3 _ _ _ _ (c .before .before .before .before .before .field .ensures) (c .before .before .before .before .if1 .left) _
+    (c .before .before .before .field2 .ensures) (c .before .before .if2 .left) _ (c .before .field3 .ensures) (c .if3 .taken)
 
 sound-refs-requires : tie.Need-sound-refs-requires
 sound-refs-requires c κs = search needs
 
 returns-4 : tie.Need-returns-4
-returns-4 c = cell-4 _ _ _ _ (c .before .before .before .before .before .before .before .field .ensures) (c .before .before .before .before .before .before .if1 .left) _ (c .before .before .before .before .before .field2 .ensures) (c .before .before .before .before .if2 .left) _ (c .before .before .before .field3 .ensures) (c .before .before .if3 .left) _ (c .before .sound-refs .ensures) (not-true _ (c .if4 .taken))
+returns-4 c = cell-4 _ _ _ _ (c .before .before .before .before .before .before .before .field .ensures) (c .before .before .before .before .before .before .if1 .left) _
+    (c .before .before .before .before .before .field2 .ensures) (c .before .before .before .before .if2 .left) _ (c .before .before .before .field3 .ensures)
+    (c .before .before .if3 .left) _ (c .before .sound-refs .ensures) (not-true _ (c .if4 .taken))
 
 mul-from : tie.Need-mul-from
 mul-from c = search needs
@@ -50,7 +51,10 @@ tail-zero-requires : tie.Need-tail-zero-requires
 tail-zero-requires c κs = search needs
 
 returns-5 : tie.Need-returns-5
-returns-5 c = cell-5 _ _ _ _ (c .before .before .before .before .before .before .before .before .before .field .ensures) (c .before .before .before .before .before .before .before .before .if1 .left) _ (c .before .before .before .before .before .before .before .field2 .ensures) (c .before .before .before .before .before .before .if2 .left) _ (c .before .before .before .before .before .field3 .ensures) (c .before .before .before .before .if3 .left) _ (c .before .before .before .sound-refs .ensures) (not-false _ (c .before .before .if4 .left)) _ (c .tail-zero .ensures)
+returns-5 c = cell-5 _ _ _ _ (c .before .before .before .before .before .before .before .before .before .field .ensures)
+    (c .before .before .before .before .before .before .before .before .if1 .left) _ (c .before .before .before .before .before .before .before .field2 .ensures)
+    (c .before .before .before .before .before .before .if2 .left) _ (c .before .before .before .before .before .field3 .ensures)
+    (c .before .before .before .before .if3 .left) _ (c .before .before .before .sound-refs .ensures) (not-false _ (c .before .before .if4 .left)) _ (c .tail-zero .ensures)
 
 pub sound-cell-spec : {M : Type 1} → statement M
 sound-cell-spec =

@@ -1,9 +1,6 @@
 -- `sound::sound_ref` meets its contract. Assumes nothing.
-use Prim.Native.Nat.{ℕ, _≤_, _<_, _+_, _-_, _*_, _/_}
-use mathlib.Core.Path.{_≡_, refl, sym}
-use native.Mathlib.Omega.{arith}
+use Prim.Native.Nat.{_-_}
 use Rattle.sound.proofs.Laws.{ref-used, ref-unused}
-use borrow.Author.Needs.{needs}
 use Rattle.sound.proofs.sound_ref.Statement.{statement}
 use Rattle.sound.proofs.sound_ref.Tie as tie
 

@@ -32,7 +32,9 @@ sound-ref-requires : tie.Need-sound-ref-requires Inv-loop μ-loop
 sound-ref-requires c κs = tt
 
 returns : tie.Need-returns Inv-loop μ-loop
-returns c = all-not _ 4 (c .before .before .before .before .loop .k) (omega arith) (ref-is (c .before .before .before .before .before .before .before .args .table .now) (c .before .before .before .before .before .before .before .args .i) (c .before .before .before .before .loop .k) _ _ _ (c .before .before .before .before .before .field .ensures) (c .before .before .field2 .ensures) (c .before .sound-ref .ensures) ∙ not-true _ (c .if1 .taken))
+returns c = all-not _ 4 (c .before .before .before .before .loop .k) (omega arith) (ref-is (c .before .before .before .before .before .before .before .args .table .now)
+    (c .before .before .before .before .before .before .before .args .i) (c .before .before .before .before .loop .k) _ _ _
+    (c .before .before .before .before .before .field .ensures) (c .before .before .field2 .ensures) (c .before .sound-ref .ensures) ∙ not-true _ (c .if1 .taken))
 
 add-k : tie.Need-add-k Inv-loop μ-loop
 add-k c = omega arith
@@ -43,7 +45,10 @@ loop-less c = omega arith
 loop-again : tie.Need-loop-again Inv-loop μ-loop
 loop-again c = (
   omega arith,
-  all-more _ (c .before .before .before .before .loop .k) (c .before .before .before .before .loop .inv .1) (ref-is (c .before .before .before .before .before .before .before .args .table .now) (c .before .before .before .before .before .before .before .args .i) (c .before .before .before .before .loop .k) _ _ _ (c .before .before .before .before .before .field .ensures) (c .before .before .field2 .ensures) (c .before .sound-ref .ensures) ∙ not-false _ (c .if1 .left)),
+  all-more _ (c .before .before .before .before .loop .k) (c .before .before .before .before .loop .inv .1)
+      (ref-is (c .before .before .before .before .before .before .before .args .table .now) (c .before .before .before .before .before .before .before .args .i)
+      (c .before .before .before .before .loop .k) _ _ _ (c .before .before .before .before .before .field .ensures) (c .before .before .field2 .ensures)
+      (c .before .sound-ref .ensures) ∙ not-false _ (c .if1 .left)),
 )
 
 returns-2 : tie.Need-returns-2 Inv-loop μ-loop

@@ -1,6 +1,5 @@
 -- `sound::unused_in` meets its contract: the table has the powers. Assumes nothing.
-use Prim.Native.Nat.{ℕ, _≤_, _<_, _+_, _-_, _*_, _/_}
-use mathlib.Core.Path.{_≡_, refl, sym}
+use Prim.Native.Nat.{_-_}
 use native.Mathlib.Omega.{arith}
 use Rattle.sound.proofs.Laws.{unused-table}
 use borrow.Author.Needs.{needs}

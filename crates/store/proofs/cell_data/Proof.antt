@@ -1,5 +1,4 @@
 -- `store::cell_data` meets its contract. Assumes nothing.
-use Prim.Native.Nat.{_*_}
 use mathlib.Core.Path.{sym, _∙_}
 use native.Mathlib.Omega.{arith}
 use borrow.Author.Tests.{not-true, not-false}
@@ -16,13 +15,15 @@ slice-aggregate-result : tie.Need-slice-aggregate-result
 slice-aggregate-result c = search needs
 
 returns : tie.Need-returns
-returns c = let a = c .before .before .before .before .before .args in data-store (a .count) (a .table .now) (a .bytes .now) (a .n) (sym (c .before .before .is-sound .ensures) ∙ not-true _ (c .before .if1 .taken)) (a .bytes .now)
+returns c = let a = c .before .before .before .before .before .args in data-store (a .count) (a .table .now) (a .bytes .now) (a .n)
+    (sym (c .before .before .is-sound .ensures) ∙ not-true _ (c .before .if1 .taken)) (a .bytes .now)
 
 slice-aggregate-result-2 : tie.Need-slice-aggregate-result-2
 slice-aggregate-result-2 c = search needs
 
 returns-2 : tie.Need-returns-2
-returns-2 c = let a = c .before .before .before .before .before .before .args in data-nocell (a .count) (a .table .now) (a .bytes .now) (a .n) (sym (c .before .before .before .is-sound .ensures) ∙ not-false _ (c .before .before .if1 .left)) (c .before .if2 .taken) (a .bytes .now)
+returns-2 c = let a = c .before .before .before .before .before .before .args in data-nocell (a .count) (a .table .now) (a .bytes .now) (a .n)
+    (sym (c .before .before .before .is-sound .ensures) ∙ not-false _ (c .before .before .if1 .left)) (c .before .if2 .taken) (a .bytes .now)
 
 mul-from : tie.Need-mul-from
 mul-from c = let s = sound-is _ _ _ (sym (c .before .before .is-sound .ensures) ∙ not-false _ (c .before .if1 .left)) in let z = s .lengths in omega (arith, s .held)
@@ -31,10 +32,12 @@ field-requires : tie.Need-field-requires
 field-requires c κs = let s = sound-is _ _ _ (sym (c .before .before .is-sound .ensures) ∙ not-false _ (c .before .if1 .left)) in let z = s .lengths in omega (arith, s .held)
 
 add-to : tie.Need-add-to
-add-to c = let s = sound-is _ _ _ (sym (c .before .before .before .is-sound .ensures) ∙ not-false _ (c .before .before .if1 .left)) in let z = s .lengths in omega (arith, s .held, c .field .ensures, s .cells (c .before .before .before .before .before .before .args .n) (c .before .if2 .left) .bits)
+add-to c = let s = sound-is _ _ _ (sym (c .before .before .before .is-sound .ensures) ∙ not-false _ (c .before .before .if1 .left)) in let z = s .lengths in omega
+    (arith, s .held, c .field .ensures, s .cells (c .before .before .before .before .before .before .args .n) (c .before .if2 .left) .bits)
 
 add-to-2 : tie.Need-add-to-2
-add-to-2 c = let s = sound-is _ _ _ (sym (c .before .before .before .is-sound .ensures) ∙ not-false _ (c .before .before .if1 .left)) in let z = s .lengths in omega (arith, s .held, c .field .ensures, s .cells (c .before .before .before .before .before .before .args .n) (c .before .if2 .left) .bits)
+add-to-2 c = let s = sound-is _ _ _ (sym (c .before .before .before .is-sound .ensures) ∙ not-false _ (c .before .before .if1 .left)) in let z = s .lengths in omega
+    (arith, s .held, c .field .ensures, s .cells (c .before .before .before .before .before .before .args .n) (c .before .if2 .left) .bits)
 
 sub-result : tie.Need-sub-result
 sub-result c = search needs
@@ -43,10 +46,18 @@ part-result-start : tie.Need-part-result-start
 part-result-start c = search needs
 
 part-result-end : tie.Need-part-result-end
-part-result-end c = let s = sound-is _ _ _ (sym (c .before .before .before .is-sound .ensures) ∙ not-false _ (c .before .before .if1 .left)) in let z = s .lengths in omega (arith, s .held, c .field .ensures, s .cells (c .before .before .before .before .before .before .args .n) (c .before .if2 .left) .bits)
+part-result-end c = let s = sound-is _ _ _ (sym (c .before .before .before .is-sound .ensures) ∙ not-false _
+    (c .before .before .if1 .left)) in let z = s .lengths in omega (
+      arith,
+      s .held,
+      c .field .ensures,
+      s .cells
+          (c .before .before .before .before .before .before .args .n) (c .before .if2 .left) .bits,
+    )
 
 returns-3 : tie.Need-returns-3
-returns-3 c = let a = c .before .before .before .before .before .before .before .args in data-cell (a .count) (a .table .now) (a .bytes .now) (a .n) (sym (c .before .before .before .before .is-sound .ensures) ∙ not-false _ (c .before .before .before .if1 .left)) (c .before .before .if2 .left) _ (c .before .field .ensures)
+returns-3 c = let a = c .before .before .before .before .before .before .before .args in data-cell (a .count) (a .table .now) (a .bytes .now) (a .n)
+    (sym (c .before .before .before .before .is-sound .ensures) ∙ not-false _ (c .before .before .before .if1 .left)) (c .before .before .if2 .left) _ (c .before .field .ensures)
 
 pub cell-data-spec : {M : Type 1} → statement M
 cell-data-spec =

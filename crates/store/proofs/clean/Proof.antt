@@ -31,10 +31,13 @@ zero-bytes-requires : tie.Need-zero-bytes-requires
 zero-bytes-requires c κs = search needs
 
 same-length : tie.Need-same-length
-same-length c = let a = c .before .before .before .before .before .before .before .args in clean-length (a .block .now) (a .bits / 8) (c .before .before .before .before .keep-used .result) ((a .bits + 7) / 8) (c .before .before .zero-bytes .last .0) (c .before .before .zero-bytes .kept .0)
+same-length c = let a = c .before .before .before .before .before .before .before .args in clean-length (a .block .now) (a .bits / 8)
+    (c .before .before .before .before .keep-used .result) ((a .bits + 7) / 8) (c .before .before .zero-bytes .last .0) (c .before .before .zero-bytes .kept .0)
 
 returns : tie.Need-returns
-returns c = let a = c .before .before .before .before .before .before .before .args in clean-is (a .block .now) (a .bits) _ _ (c .before .before .before .before .before .before .before .pre .1) (c .before .before .before .before .before .before .before .pre .0) (c .before .before .before .before .keep-used .ensures) (c .before .before .zero-bytes .ensures)
+returns c = let a = c .before .before .before .before .before .before .before .args in clean-is (a .block .now) (a .bits) _ _
+    (c .before .before .before .before .before .before .before .pre .1) (c .before .before .before .before .before .before .before .pre .0)
+    (c .before .before .before .before .keep-used .ensures) (c .before .before .zero-bytes .ensures)
 
 pub clean-spec : {M : Type 1} → statement M
 clean-spec =

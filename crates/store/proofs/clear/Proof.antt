@@ -31,7 +31,9 @@ same-length-4 : tie.Need-same-length-4
 same-length-4 c = search needs
 
 returns-2 : tie.Need-returns-2
-returns-2 c = clear-done _ _ _ (sym (c .before .before .before .before .before .before .before .before .before .is-sized .ensures) ∙ not-false _ (c .before .before .before .before .before .before .before .before .if1 .left)) _ _ (c .before .before .before .before .before .before .zero-numbers .ensures) (c .before .before .zero-bytes .ensures)
+returns-2 c = clear-done _ _ _ (sym (c .before .before .before .before .before .before .before .before .before .is-sized .ensures) ∙ not-false _
+    (c .before .before .before .before .before .before .before .before .if1 .left)) _ _ (c .before .before .before .before .before .before .zero-numbers .ensures)
+    (c .before .before .zero-bytes .ensures)
 
 pub clear-spec : {M : Type 1} → statement M
 clear-spec =

@@ -56,7 +56,9 @@ shared-slice-read-t25 : tie.Need-shared-slice-read-t25
 shared-slice-read-t25 c = search needs
 
 returns : tie.Need-returns
-returns c = head-is (c .before .before .before .before .before .before .before .before .args .table .now) (c .before .before .before .before .before .before .before .before .args .n) _ _ (c .before .before .before .before .before .before .before .before .pre .1) (c .before .before .before .before .before .field .ensures) (c .before .before .before .before .field2 .ensures)
+returns c = head-is (c .before .before .before .before .before .before .before .before .args .table .now)
+    (c .before .before .before .before .before .before .before .before .args .n) _ _ (c .before .before .before .before .before .before .before .before .pre .1)
+    (c .before .before .before .before .before .field .ensures) (c .before .before .before .before .field2 .ensures)
 
 pub head-at-spec : {M : Type 1} → statement M
 head-at-spec =

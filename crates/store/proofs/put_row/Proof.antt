@@ -34,7 +34,9 @@ same-length c = search needs
 returns : tie.Need-returns
 returns c =
     let a = c .before .before .before .before .before .before .before .before .before .before .before .args in
-    row-is (a .table .now) (a .row) (a .flag) (a .bits) (a .refs .now) _ _ _ _ _ (c .before .before .before .before .before .before .before .before .number-at .ensures) (c .before .before .before .before .before .before .before .number-at2 .ensures) (c .before .before .before .before .before .before .number-at3 .ensures) (c .before .before .before .before .before .number-at4 .ensures) (c .before .before .put-numbers .ensures)
+    row-is (a .table .now) (a .row) (a .flag) (a .bits) (a .refs .now) _ _ _ _ _ (c .before .before .before .before .before .before .before .before .number-at .ensures)
+    (c .before .before .before .before .before .before .before .number-at2 .ensures) (c .before .before .before .before .before .before .number-at3 .ensures)
+    (c .before .before .before .before .before .number-at4 .ensures) (c .before .before .put-numbers .ensures)
 
 pub put-row-spec : {M : Type 1} → statement M
 put-row-spec =

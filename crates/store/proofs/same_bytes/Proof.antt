@@ -26,7 +26,8 @@ shared-slice-read-if2-2 : tie.Need-shared-slice-read-if2-2 Inv-loop μ-loop
 shared-slice-read-if2-2 c = omega arith
 
 returns-2 : tie.Need-returns-2 Inv-loop μ-loop
-returns-2 c = bytes-diff (c .before .before .before .before .before .before .args .xs .now) (c .before .before .before .before .before .before .args .ys .now) (c .before .before .before .before .loop .k) (omega arith) (c .before .before .before .before .before .if1 .left) (c .if2 .taken)
+returns-2 c = bytes-diff (c .before .before .before .before .before .before .args .xs .now) (c .before .before .before .before .before .before .args .ys .now)
+    (c .before .before .before .before .loop .k) (omega arith) (c .before .before .before .before .before .if1 .left) (c .if2 .taken)
 
 add-k : tie.Need-add-k Inv-loop μ-loop
 add-k c = omega arith
@@ -35,10 +36,16 @@ loop-less : tie.Need-loop-less Inv-loop μ-loop
 loop-less c = omega arith
 
 loop-again : tie.Need-loop-again Inv-loop μ-loop
-loop-again c = (omega arith, front-more (c .before .before .before .before .before .before .args .xs .now) (c .before .before .before .before .before .before .args .ys .now) (c .before .before .before .before .loop .k) (omega arith) (omega arith) (c .before .before .before .before .loop .inv .1) (c .if2 .left))
+loop-again c = (
+  omega arith,
+  front-more (c .before .before .before .before .before .before .args .xs .now)
+      (c .before .before .before .before .before .before .args .ys .now) (c .before .before .before .before .loop .k) (omega arith) (omega arith)
+      (c .before .before .before .before .loop .inv .1) (c .if2 .left),
+)
 
 returns-3 : tie.Need-returns-3 Inv-loop μ-loop
-returns-3 c = bytes-same (c .before .before .before .args .xs .now) (c .before .before .before .args .ys .now) (c .before .loop .k) (c .loop-test .left) (c .before .before .if1 .left) (c .before .loop .inv .1)
+returns-3 c = bytes-same (c .before .before .before .args .xs .now) (c .before .before .before .args .ys .now) (c .before .loop .k) (c .loop-test .left)
+    (c .before .before .if1 .left) (c .before .loop .inv .1)
 
 pub same-bytes-spec : {M : Type 1} → statement M
 same-bytes-spec =

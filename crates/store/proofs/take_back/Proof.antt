@@ -50,8 +50,11 @@ same-length-2 c = search needs
 returns : tie.Need-returns
 returns c = record {
   count = refl;
-  table = rest-cleared (c .before .before .before .before .before .before .before .before .before .before .args .old * 7) (c .before .before .before .before .before .before .before .before .before .before .args .table .now) _ (c .before .before .before .before .before .before .zero-numbers .ensures);
-  bytes = rest-cleared (c .before .before .before .before .before .before .before .before .before .before .args .old * 128) (c .before .before .before .before .before .before .before .before .before .before .args .bytes .now) _ (c .before .before .zero-bytes .ensures);
+  table = rest-cleared (c .before .before .before .before .before .before .before .before .before .before .args .old * 7)
+      (c .before .before .before .before .before .before .before .before .before .before .args .table .now) _
+      (c .before .before .before .before .before .before .zero-numbers .ensures);
+  bytes = rest-cleared (c .before .before .before .before .before .before .before .before .before .before .args .old * 128)
+      (c .before .before .before .before .before .before .before .before .before .before .args .bytes .now) _ (c .before .before .zero-bytes .ensures);
 }
 
 pub take-back-spec : {M : Type 1} → statement M

@@ -31,7 +31,13 @@ same-length-2 : tie.Need-same-length-2
 same-length-2 c = search needs
 
 returns-2 : tie.Need-returns-2
-returns-2 c = add-done _ _ _ _ _ _ _ (sym (c .before .before .before .before .before .before .before .before .before .before .before .before .before .before .holds .ensures) ∙ not-false _ (c .before .before .before .before .before .before .before .before .before .before .before .before .before .if1 .left)) _ (c .before .before .before .before .before .before .before .before .before .wire-cell .ensures) _ _ _ _ (c .before .before .before .before .before .before .before .before .add .ensures) _ (c .before .before .added .given .1)
+returns-2 c =
+    let h : tie.After-holds = search needs in
+    let e : tie.Else1 = search needs in
+    let w : tie.After-wire-cell = search needs in
+    let a : tie.After-add = search needs in
+    let m : tie.After-added = search needs in
+    add-done _ _ _ _ _ _ _ (sym (h .holds .ensures) ∙ not-false _ (e .if1 .left)) _ (w .wire-cell .ensures) _ _ _ _ (a .add .ensures) _ (m .added .given .1)
 
 same-length-3 : tie.Need-same-length-3
 same-length-3 c = search needs
@@ -40,7 +46,13 @@ same-length-4 : tie.Need-same-length-4
 same-length-4 c = search needs
 
 returns-3 : tie.Need-returns-3
-returns-3 c = add-refused _ _ _ _ _ _ _ (sym (c .before .before .before .before .before .before .before .before .before .before .before .before .before .before .holds .ensures) ∙ not-false _ (c .before .before .before .before .before .before .before .before .before .before .before .before .before .if1 .left)) _ (c .before .before .before .before .before .before .before .before .before .wire-cell .ensures) _ _ _ _ (c .before .before .before .before .before .before .before .before .add .ensures) _ (c .before .before .added2 .given .1)
+returns-3 c =
+    let h : tie.After-holds = search needs in
+    let e : tie.Else1 = search needs in
+    let w : tie.After-wire-cell = search needs in
+    let a : tie.After-add = search needs in
+    let m : tie.After-added2 = search needs in
+    add-refused _ _ _ _ _ _ _ (sym (h .holds .ensures) ∙ not-false _ (e .if1 .left)) _ (w .wire-cell .ensures) _ _ _ _ (a .add .ensures) _ (m .added2 .given .1)
 
 pub tapunerow-add-spec : {M : Type 1} → statement M
 tapunerow-add-spec =

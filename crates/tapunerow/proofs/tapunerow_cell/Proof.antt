@@ -29,7 +29,15 @@ enum-known-asked-2 : tie.Need-enum-known-asked-2
 enum-known-asked-2 c = search needs
 
 returns : tie.Need-returns
-returns c = cell-done _ _ _ _ _ (c .before .before .before .before .before .before .before .before .before .cell .ensures) _ (c .before .before .before .before .before .before .before .asked .given .1) _ _ _ _ _ (c .before .before .before .before .before .bit .ensures) (c .before .before .before .before .wide .ensures) (c .before .before .before .wide2 .ensures) (c .before .before .wide3 .ensures) (c .before .wide4 .ensures)
+returns c =
+    let a : tie.After-cell = search needs in
+    let m : tie.After-asked = search needs in
+    let b : tie.After-bit = search needs in
+    let w₀ : tie.After-wide = search needs in
+    let w₁ : tie.After-wide2 = search needs in
+    let w₂ : tie.After-wide3 = search needs in
+    let w₃ : tie.After-wide4 = search needs in
+    cell-done _ _ _ _ _ (a .cell .ensures) _ (m .asked .given .1) _ _ _ _ _ (b .bit .ensures) (w₀ .wide .ensures) (w₁ .wide2 .ensures) (w₂ .wide3 .ensures) (w₃ .wide4 .ensures)
 
 returns-2 : tie.Need-returns-2
 returns-2 c = cell-refused _ _ _ _ _ (c .before .before .before .before .cell .ensures) _ (c .before .before .asked2 .given .1)

@@ -14,16 +14,30 @@ enum-told : tie.Need-enum-told
 enum-told c = search needs
 
 returns : tie.Need-returns
-returns c = copy-empty _ _ _ _ _ _ (c .before .before .before .before .before .cell-data .ensures) (c .before .before .before .before .if1 .taken) _ (c .before .before .before .cell .ensures) _ (c .before .enum-told .given .1)
+returns c =
+    let o : tie.After-cell-data = search needs in
+    let i : tie.Then1 = search needs in
+    let a : tie.After-cell = search needs in
+    let m : tie.After-enum-told = search needs in
+    copy-empty _ _ _ _ _ _ (o .cell-data .ensures) (i .if1 .taken) _ (a .cell .ensures) _ (m .enum-told .given .1)
 
 enum-known-asked : tie.Need-enum-known-asked
 enum-known-asked c = search needs
 
 returns-2 : tie.Need-returns-2
-returns-2 c = copy-refused _ _ _ _ _ _ (c .before .before .before .before .before .before .cell-data .ensures) (c .before .before .before .before .before .if1 .taken) _ (c .before .before .before .before .cell .ensures) _ (c .before .before .asked .given .1)
+returns-2 c =
+    let o : tie.After-cell-data = search needs in
+    let i : tie.Then1 = search needs in
+    let a : tie.After-cell = search needs in
+    let m : tie.After-asked = search needs in
+    copy-refused _ _ _ _ _ _ (o .cell-data .ensures) (i .if1 .taken) _ (a .cell .ensures) _ (m .asked .given .1)
 
 returns-3 : tie.Need-returns-3
-returns-3 c = copy-over _ _ _ _ _ _ (c .before .before .before .cell-data .ensures) (c .before .before .if1 .left) (c .before .if2 .taken)
+returns-3 c =
+    let o : tie.After-cell-data = search needs in
+    let i : tie.Else1 = search needs in
+    let j : tie.Then2 = search needs in
+    copy-over _ _ _ _ _ _ (o .cell-data .ensures) (i .if1 .left) (j .if2 .taken)
 
 put-bytes-requires : tie.Need-put-bytes-requires
 put-bytes-requires c κs = search needs
@@ -32,7 +46,12 @@ same-length : tie.Need-same-length
 same-length c = search needs
 
 returns-4 : tie.Need-returns-4
-returns-4 c = copy-done _ _ _ _ _ _ (c .before .before .before .before .before .before .before .cell-data .ensures) (c .before .before .before .before .before .before .if1 .left) (c .before .before .before .before .before .if2 .left) _ (c .before .before .before .put-bytes .ensures .1)
+returns-4 c =
+    let o : tie.After-cell-data = search needs in
+    let i : tie.Else1 = search needs in
+    let j : tie.Else2 = search needs in
+    let p : tie.After-put-bytes = search needs in
+    copy-done _ _ _ _ _ _ (o .cell-data .ensures) (i .if1 .left) (j .if2 .left) _ (p .put-bytes .ensures .1)
 
 pub tapunerow-cell-data-spec : {M : Type 1} → statement M
 tapunerow-cell-data-spec =

@@ -20,7 +20,10 @@ same-length-2 : tie.Need-same-length-2
 same-length-2 c = search needs
 
 returns : tie.Need-returns
-returns c = clear-done _ _ _ _ _ _ _ (c .before .before .before .before .before .before .before .clear .ensures) (c .before .enum-told .given .1)
+returns c =
+    let a : tie.After-clear = search needs in
+    let m : tie.After-enum-told = search needs in
+    clear-done _ _ _ _ _ _ _ (a .clear .ensures) (m .enum-told .given .1)
 
 same-length-3 : tie.Need-same-length-3
 same-length-3 c = search needs
@@ -29,7 +32,10 @@ same-length-4 : tie.Need-same-length-4
 same-length-4 c = search needs
 
 returns-2 : tie.Need-returns-2
-returns-2 c = clear-refused _ _ _ _ _ _ _ (c .before .before .before .before .before .before .before .before .clear .ensures) _ (c .before .before .cleared .given .1)
+returns-2 c =
+    let a : tie.After-clear = search needs in
+    let m : tie.After-cleared = search needs in
+    clear-refused _ _ _ _ _ _ _ (a .clear .ensures) _ (m .cleared .given .1)
 
 pub tapunerow-clear-spec : {M : Type 1} → statement M
 tapunerow-clear-spec =

@@ -17,13 +17,19 @@ same-length : tie.Need-same-length
 same-length c = search needs
 
 returns : tie.Need-returns
-returns c = depth-done _ _ _ _ _ _ _ (c .before .before .before .before .before .before .max-depth .ensures) _ (c .before .before .depth .given .1)
+returns c =
+    let a : tie.After-max-depth = search needs in
+    let m : tie.After-depth = search needs in
+    depth-done _ _ _ _ _ _ _ (a .max-depth .ensures) _ (m .depth .given .1)
 
 same-length-2 : tie.Need-same-length-2
 same-length-2 c = search needs
 
 returns-2 : tie.Need-returns-2
-returns-2 c = depth-refused _ _ _ _ _ _ _ (c .before .before .before .before .before .before .max-depth .ensures) _ (c .before .before .depth2 .given .1)
+returns-2 c =
+    let a : tie.After-max-depth = search needs in
+    let m : tie.After-depth2 = search needs in
+    depth-refused _ _ _ _ _ _ _ (a .max-depth .ensures) _ (m .depth2 .given .1)
 
 pub tapunerow-depth-spec : {M : Type 1} → statement M
 tapunerow-depth-spec =

@@ -20,7 +20,10 @@ same-length-2 : tie.Need-same-length-2
 same-length-2 c = search needs
 
 returns : tie.Need-returns
-returns c = text-done _ _ _ _ _ _ _ _ _ _ (c .before .before .before .before .before .before .before .before .debug-text .ensures) _ (c .before .before .text .given .1)
+returns c =
+    let a : tie.After-debug-text = search needs in
+    let m : tie.After-text = search needs in
+    text-done _ _ _ _ _ _ _ _ _ _ (a .debug-text .ensures) _ (m .text .given .1)
 
 same-length-3 : tie.Need-same-length-3
 same-length-3 c = search needs
@@ -29,7 +32,10 @@ same-length-4 : tie.Need-same-length-4
 same-length-4 c = search needs
 
 returns-2 : tie.Need-returns-2
-returns-2 c = text-refused _ _ _ _ _ _ _ _ _ _ (c .before .before .before .before .before .before .before .before .debug-text .ensures) _ (c .before .before .text2 .given .1)
+returns-2 c =
+    let a : tie.After-debug-text = search needs in
+    let m : tie.After-text2 = search needs in
+    text-refused _ _ _ _ _ _ _ _ _ _ (a .debug-text .ensures) _ (m .text2 .given .1)
 
 pub tapunerow-text-spec : {M : Type 1} → statement M
 tapunerow-text-spec =

@@ -26,7 +26,12 @@ same-length-2 : tie.Need-same-length-2
 same-length-2 c = search needs
 
 returns : tie.Need-returns
-returns c = write-done _ _ _ _ _ _ _ _ _ (c .before .before .before .before .before .before .before .before .before .before .before .before .is-set .ensures) (c .before .before .before .before .before .before .before .before .before .before .before .is-set2 .ensures) _ _ _ (c .before .before .before .before .before .before .before .before .serialize .ensures) _ (c .before .before .wrote .given .1)
+returns c =
+    let x : tie.After-is-set = search needs in
+    let y : tie.After-is-set2 = search needs in
+    let w : tie.After-serialize = search needs in
+    let m : tie.After-wrote = search needs in
+    write-done _ _ _ _ _ _ _ _ _ (x .is-set .ensures) (y .is-set2 .ensures) _ _ _ (w .serialize .ensures) _ (m .wrote .given .1)
 
 same-length-3 : tie.Need-same-length-3
 same-length-3 c = search needs
@@ -35,7 +40,12 @@ same-length-4 : tie.Need-same-length-4
 same-length-4 c = search needs
 
 returns-2 : tie.Need-returns-2
-returns-2 c = write-refused _ _ _ _ _ _ _ _ _ (c .before .before .before .before .before .before .before .before .before .before .before .before .is-set .ensures) (c .before .before .before .before .before .before .before .before .before .before .before .is-set2 .ensures) _ _ _ (c .before .before .before .before .before .before .before .before .serialize .ensures) _ (c .before .before .wrote2 .given .1)
+returns-2 c =
+    let x : tie.After-is-set = search needs in
+    let y : tie.After-is-set2 = search needs in
+    let w : tie.After-serialize = search needs in
+    let m : tie.After-wrote2 = search needs in
+    write-refused _ _ _ _ _ _ _ _ _ (x .is-set .ensures) (y .is-set2 .ensures) _ _ _ (w .serialize .ensures) _ (m .wrote2 .given .1)
 
 pub tapunerow-write-spec : {M : Type 1} → statement M
 tapunerow-write-spec =

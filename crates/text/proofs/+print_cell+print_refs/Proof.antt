@@ -3,7 +3,7 @@
 use mathlib.Core.Path.{_≡_, _∙_}
 use native.Mathlib.Nat.{pos-of-ne-zero}
 use native.Mathlib.Omega.{arith}
-use lib.ListN.{length, getD, drop}
+use lib.ListN.{getD, drop}
 use borrow.Author.Needs.{needs}
 use Rattle.scheme.specs.Memory.{cellAt}
 use Rattle.laws.specs.Records.{refsAt, RecordOk}

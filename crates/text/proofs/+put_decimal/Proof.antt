@@ -1,5 +1,5 @@
 -- `text::put_decimal` meets its contract: the last digit behind those of the tenth. The measure is the number. Assumes nothing.
-use mathlib.Core.Path.{_≡_, ap, _∙_}
+use mathlib.Core.Path.{ap, _∙_}
 use mathlib.Core.List.{[], _∷_}
 use native.Mathlib.Omega.{arith}
 use lib.ListN.{length, length-append}

@@ -1,5 +1,5 @@
 -- `text::width` meets its contract: a number of more than one digit has one more than its tenth. The measure is the number. Assumes nothing.
-use mathlib.Core.Path.{_≡_, ap, sym}
+use mathlib.Core.Path.{ap, sym}
 use mathlib.Core.List.{[], _∷_}
 use native.Mathlib.Omega.{arith}
 use lib.ListN.{length, length-append}

@@ -1,6 +1,6 @@
-use borrow.Author.Needs.{needs}
-use Prim.Native.Nat.{ℕ, _≤_, _<_, _-_, _+_, _*_, min}
-use mathlib.Core.Path.{_≡_, refl, ap, sym, _∙_}
+-- `text::all_heights` meets its contract: after i turns the scratch holds the heights of the first i cells. Assumes nothing.
+use Prim.Native.Nat.{ℕ, _≤_, _-_, _+_, min}
+use mathlib.Core.Path.{_≡_, refl, _∙_}
 use mathlib.Core.List.{List, _++_, map}
 use native.Mathlib.Omega.{arith}
 use lib.ListN.{length, drop, length-set}
@@ -10,9 +10,6 @@ use Rattle.scheme.specs.Text.{heightStep}
 use Rattle.laws.specs.Passes.{pass-turn, caps-over}
 use Rattle.text.proofs.all_heights.Statement.{statement}
 use Rattle.text.proofs.all_heights.Tie as tie
-use Rattle.text.proofs.all_heights.Reads as reads
-use Rattle.text.proofs.all_heights.Lts as lts
-use Rattle.depth.proofs.over_refs.Reads as over-refs-reads
 
 abbrev Inv-loop : tie.InvT-loop
 Inv-loop table n cap scratch₀ i₀ scratch i = (i ≤ n) × (length scratch ≡ length scratch₀) × ((d : List ℕ) → scratch ≡ map (min cap) (below heightStep 0 (cellAt table d) i) ++ drop i scratch₀)
@@ -20,32 +17,25 @@ Inv-loop table n cap scratch₀ i₀ scratch i = (i ≤ n) × (length scratch �
 abbrev μ-loop : tie.MeasureT-loop
 μ-loop table n cap scratch₀ i₀ scratch i = n - i
 
--- src/lib.rt:62:5
 loop-holds : tie.Need-loop-holds Inv-loop μ-loop
 unfolding below
 loop-holds c = (omega arith, refl, λ d. refl)
 
--- src/lib.rt:63:13
 over-refs-requires : tie.Need-over-refs-requires Inv-loop μ-loop
 over-refs-requires c κs = (c .before .before .before .before .before .pre .0 (c .before .before .loop .i) (omega arith), omega arith)
 
--- src/lib.rt:64:9
 mul-scratch : tie.Need-mul-scratch Inv-loop μ-loop
 mul-scratch c = omega (arith, c .before .before .before .before .before .before .good)
 
--- src/lib.rt:64:9
 slice-write-scratch : tie.Need-slice-write-scratch Inv-loop μ-loop
 slice-write-scratch c = omega arith
 
--- src/lib.rt:65:9
 add-i : tie.Need-add-i Inv-loop μ-loop
 add-i c = omega arith
 
--- src/lib.rt:62:5
 loop-less : tie.Need-loop-less Inv-loop μ-loop
 loop-less c = omega arith
 
--- src/lib.rt:62:5
 loop-again : tie.Need-loop-again Inv-loop μ-loop
 loop-again c =
     let a = c .before .before .before .before .before .before in
@@ -55,11 +45,9 @@ loop-again c =
       λ d. pass-turn heightStep (a .args .cap) (caps-over (a .args .cap)) (a .args .table .now) d (l .i) (c .over-refs .result) (l .scratch) (a .args .scratch .now) (a .pre .0 (l .i) (omega arith)) (omega arith) (l .inv .2 d) (c .over-refs .ensures),
     )
 
--- src/lib.rt:56:1
 same-length : tie.Need-same-length Inv-loop μ-loop
 same-length c = c .before .loop .inv .1
 
--- src/lib.rt:56:1
 returns : tie.Need-returns Inv-loop μ-loop
 returns c =
     let e : c .before .loop .i ≡ c .before .before .before .before .args .n = omega arith in

@@ -1,6 +1,6 @@
 -- `text::all_lengths` meets its contract. Assumes nothing.
-use Prim.Native.Nat.{ℕ, _≤_, _<_, _-_, _+_, _*_, min}
-use mathlib.Core.Path.{_≡_, refl, ap, sym, _∙_}
+use Prim.Native.Nat.{ℕ, _≤_, _-_, _+_, _*_, min}
+use mathlib.Core.Path.{_≡_, refl, _∙_}
 use mathlib.Core.List.{List, _++_, map}
 use native.Mathlib.Omega.{arith}
 use lib.ListN.{length, drop, getD, length-set, length-map}
@@ -11,13 +11,8 @@ use Rattle.scheme.specs.Text.{sum}
 use Rattle.text.specs.Parts.{bytesAt, around, lengthStep, ownAt}
 use Rattle.laws.specs.Passes.{pass-turn}
 use Rattle.text.proofs.Texts.{caps-length}
-use borrow.Author.Needs.{needs}
 use Rattle.text.proofs.all_lengths.Statement.{statement}
 use Rattle.text.proofs.all_lengths.Tie as tie
-use Rattle.text.proofs.all_lengths.Reads as reads
-use Rattle.text.proofs.all_lengths.Lts as lts
-use Rattle.text.proofs.length_alone.Reads as length-alone-reads
-use Rattle.text.proofs.sum_refs.Reads as sum-refs-reads
 
 -- the step's answer, as the pass has it
 step : (t d s : List ℕ) (i m a r : ℕ) → RecordOk t i → a ≡ length (ownAt t d i) + around (getD t (i * 7 + 2) 0) → r ≡ min m (a + sum (pick 0 s (refsAt t i))) → r ≡ min m (lengthStep (cellAt t d i) (pick 0 s (refsAt t i)))

@@ -1,7 +1,7 @@
 -- `text::debug_text` meets its contract: the verdict, the scratch zeroed, and what is printed. Assumes nothing.
-use mathlib.Core.Path.{_≡_, ap, sym, _∙_}
+use mathlib.Core.Path.{ap, sym, _∙_}
 use native.Mathlib.Omega.{arith}
-use lib.ListN.{length, replicate}
+use lib.ListN.{replicate}
 use Rattle.laws.specs.Puts.{puts-start}
 use Rattle.laws.specs.Records.{sound-cells}
 use Rattle.text.specs.Parts.{textAt}
@@ -9,11 +9,6 @@ use Rattle.text.proofs.Printing.{went, refused, printed}
 use borrow.Author.Needs.{needs}
 use Rattle.text.proofs.debug_text.Statement.{statement}
 use Rattle.text.proofs.debug_text.Tie as tie
-use Rattle.text.proofs.debug_text.Reads as reads
-use Rattle.text.proofs.debug_text.Lts as lts
-use Rattle.memory.proofs.zero_numbers.Reads as zero-numbers-reads
-use Rattle.text.proofs.decide.Reads as decide-reads
-use Rattle.text.proofs.print_cell.Reads as print-cell-reads
 
 decide-requires : tie.Need-decide-requires
 decide-requires c κs = search needs

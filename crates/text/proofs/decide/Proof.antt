@@ -6,7 +6,7 @@ use lib.ListN.{length}
 use borrow.Author.Needs.{needs}
 use borrow.Author.Tests.{not-true, not-false}
 use Rattle.scheme.specs.Memory.{cellAt}
-use Rattle.scheme.specs.Res.{bad, refusal}
+use Rattle.scheme.specs.Res.{refusal}
 use Rattle.scheme.specs.Text.{height}
 use Rattle.laws.specs.Records.{CellsOk, sound-cells}
 use Rattle.text.specs.Parts.{textAt, sizeAt}
@@ -15,13 +15,6 @@ use Rattle.text.specs.declared.Verdict.the-variants.{No}
 use Rattle.text.proofs.Printing.{no-store, no-cell, no-scratch, too-deep, over-budget, no-room, all-fits, text-bound}
 use Rattle.text.proofs.decide.Statement.{statement}
 use Rattle.text.proofs.decide.Tie as tie
-use Rattle.text.proofs.decide.Reads as reads
-use Rattle.text.proofs.decide.Lts as lts
-use Rattle.sound.proofs.is_sound.Reads as is-sound-reads
-use Rattle.text.proofs.allowed.Reads as allowed-reads
-use Rattle.text.proofs.height_of.Reads as height-of-reads
-use Rattle.text.proofs.length_of.Reads as length-of-reads
-use Rattle.text.proofs.size_of.Reads as size-of-reads
 
 is-sound-requires : tie.Need-is-sound-requires
 is-sound-requires c κs = search needs

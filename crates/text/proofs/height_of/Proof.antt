@@ -1,16 +1,11 @@
 -- `text::height_of` meets its contract. Assumes nothing.
-use mathlib.Core.Path.{_∙_, ap}
-use Prim.Native.Nat.{_+_, min}
+use Prim.Native.Nat.{_+_}
 use lib.ListN.{drop}
-use Rattle.scheme.specs.Memory.{cellAt}
 use Rattle.scheme.specs.Text.{heightStep}
 use Rattle.laws.specs.Passes.{cut-last, caps-over}
 use borrow.Author.Needs.{needs}
 use Rattle.text.proofs.height_of.Statement.{statement}
 use Rattle.text.proofs.height_of.Tie as tie
-use Rattle.text.proofs.height_of.Reads as reads
-use Rattle.text.proofs.height_of.Lts as lts
-use Rattle.text.proofs.all_heights.Reads as all-heights-reads
 
 add-all-heights : tie.Need-add-all-heights
 add-all-heights c = search needs

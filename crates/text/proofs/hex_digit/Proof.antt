@@ -4,8 +4,6 @@ use Rattle.scheme.specs.Text.{hexDigit}
 use borrow.Author.Needs.{needs}
 use Rattle.text.proofs.hex_digit.Statement.{statement}
 use Rattle.text.proofs.hex_digit.Tie as tie
-use Rattle.text.proofs.hex_digit.Reads as reads
-use Rattle.text.proofs.hex_digit.Lts as lts
 
 add-result : tie.Need-add-result
 add-result c = search needs

@@ -1,15 +1,11 @@
 -- `text::length_alone` meets its contract. Assumes nothing.
-use mathlib.Core.Path.{_≡_, ap, _∙_, sym}
+use mathlib.Core.Path.{_∙_, sym}
 use native.Mathlib.Nat.{pos-of-ne-zero}
 use native.Mathlib.Omega.{arith}
 use Rattle.text.proofs.Texts.{own-width, around-none, around-some}
 use borrow.Author.Needs.{needs}
 use Rattle.text.proofs.length_alone.Statement.{statement}
 use Rattle.text.proofs.length_alone.Tie as tie
-use Rattle.text.proofs.length_alone.Reads as reads
-use Rattle.text.proofs.length_alone.Lts as lts
-use Rattle.memory.proofs.field.Reads as field-reads
-use Rattle.text.proofs.width.Reads as width-reads
 
 field-requires : tie.Need-field-requires
 field-requires c κs = search needs

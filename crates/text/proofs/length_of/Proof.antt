@@ -9,9 +9,6 @@ use Rattle.text.proofs.Texts.{caps-length, length-eq}
 use borrow.Author.Needs.{needs}
 use Rattle.text.proofs.length_of.Statement.{statement}
 use Rattle.text.proofs.length_of.Tie as tie
-use Rattle.text.proofs.length_of.Reads as reads
-use Rattle.text.proofs.length_of.Lts as lts
-use Rattle.text.proofs.all_lengths.Reads as all-lengths-reads
 
 add-all-lengths : tie.Need-add-all-lengths
 add-all-lengths c = search needs

@@ -1,20 +1,16 @@
 -- `text::put_hex` meets its contract: after i turns the digits of the first i bytes are written. Assumes nothing.
 use Prim.Native.Nat.{ℕ, _≤_, _<_, _-_, _+_, _*_, _/_, _%_}
-use mathlib.Core.Path.{_≡_, refl, ap, sym, _∙_}
-use mathlib.Core.List.{List, [], _∷_, _++_}
+use mathlib.Core.Path.{_≡_, refl, sym, _∙_}
+use mathlib.Core.List.{List, [], _∷_}
 use native.Mathlib.Omega.{arith}
 use native.Mathlib.Numerals.{add-one}
 use lib.ListN.{length, take, getD, set, length-set, length-take}
 use lib.Seq.{take-suc, take-all}
-use Rattle.laws.specs.Puts.{puts, puts-nil, puts-then, puts-length}
+use Rattle.laws.specs.Puts.{puts, puts-nil, puts-then}
 use Rattle.scheme.specs.Text.{hex, hexDigit}
 use Rattle.text.proofs.Digits.{hex-length, hex-append, puts-2}
-use borrow.Author.Needs.{needs}
 use Rattle.text.proofs.put_hex.Statement.{statement}
 use Rattle.text.proofs.put_hex.Tie as tie
-use Rattle.text.proofs.put_hex.Reads as reads
-use Rattle.text.proofs.put_hex.Lts as lts
-use Rattle.text.proofs.hex_digit.Reads as hex-digit-reads
 
 -- a turn: the two digits of byte i go behind those of the first i
 turn : (src out₀ out : List ℕ) (at i to x y : ℕ) → i < length src → to ≡ at + 2 * i → out ≡ puts out₀ at (hex (take i src)) → x ≡ hexDigit (getD src i 0 / 16) → y ≡ hexDigit (getD src i 0 % 16) → set (set out to x) (to + 1) y ≡ puts out₀ at (hex (take (i + 1) src))

@@ -1,6 +1,6 @@
 -- `text::put_own` meets its contract: each call goes on where the one before it ended. Assumes nothing.
-use Prim.Native.Nat.{_≤_, _+_, _*_}
-use mathlib.Core.Path.{_≡_, ap, _∙_}
+use Prim.Native.Nat.{_≤_}
+use mathlib.Core.Path.{ap}
 use native.Mathlib.Omega.{arith}
 use lib.ListN.{length}
 use Rattle.scheme.specs.Text.{hex}
@@ -8,13 +8,6 @@ use Rattle.text.proofs.Texts.{part-bytes, own-room, own-put}
 use borrow.Author.Needs.{needs}
 use Rattle.text.proofs.put_own.Statement.{statement}
 use Rattle.text.proofs.put_own.Tie as tie
-use Rattle.text.proofs.put_own.Reads as reads
-use Rattle.text.proofs.put_own.Lts as lts
-use Rattle.memory.proofs.field.Reads as field-reads
-use Rattle.memory.proofs.put_byte.Reads as put-byte-reads
-use Rattle.memory.proofs.put_bytes.Reads as put-bytes-reads
-use Rattle.text.proofs.put_decimal.Reads as put-decimal-reads
-use Rattle.text.proofs.put_hex.Reads as put-hex-reads
 
 field-requires : tie.Need-field-requires
 field-requires c κs = search needs

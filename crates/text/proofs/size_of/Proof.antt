@@ -1,16 +1,11 @@
 -- `text::size_of` meets its contract. Assumes nothing.
-use mathlib.Core.Path.{_∙_, ap}
-use Prim.Native.Nat.{_+_, min}
+use Prim.Native.Nat.{_+_}
 use lib.ListN.{drop}
-use Rattle.scheme.specs.Memory.{cellAt}
 use Rattle.scheme.specs.Text.{sizeStep}
 use Rattle.laws.specs.Passes.{cut-last, caps-size}
 use borrow.Author.Needs.{needs}
 use Rattle.text.proofs.size_of.Statement.{statement}
 use Rattle.text.proofs.size_of.Tie as tie
-use Rattle.text.proofs.size_of.Reads as reads
-use Rattle.text.proofs.size_of.Lts as lts
-use Rattle.text.proofs.all_sizes.Reads as all-sizes-reads
 
 add-all-sizes : tie.Need-add-all-sizes
 add-all-sizes c = search needs

@@ -1,20 +1,16 @@
 -- `text::sum_refs` meets its contract. The invariant: what is left of the references goes on from h. Assumes nothing.
 use Prim.Native.Nat.{ℕ, _≤_, _<_, _-_, _+_, _*_, min}
-use mathlib.Core.Path.{_≡_, refl, ap, sym, _∙_}
-use mathlib.Core.List.{List, _∷_, []}
+use mathlib.Core.Path.{_≡_, ap}
+use mathlib.Core.List.{List}
 use mathlib.Core.Logic.{⊎-elim}
 use native.Mathlib.Omega.{arith}
-use lib.ListN.{length, drop, getD}
+use lib.ListN.{drop, getD}
 use Rattle.laws.specs.Records.{refsAt, RecordOk, refs-cons, refs-end}
 use Rattle.scheme.specs.Fold.{pick}
 use Rattle.scheme.specs.Text.{sum}
 use borrow.Author.Needs.{needs}
 use Rattle.text.proofs.sum_refs.Statement.{statement}
 use Rattle.text.proofs.sum_refs.Tie as tie
-use Rattle.text.proofs.sum_refs.Reads as reads
-use Rattle.text.proofs.sum_refs.Lts as lts
-use Rattle.memory.proofs.field.Reads as field-reads
-use Rattle.depth.proofs.least.Reads as least-reads
 
 -- what the references from j on give
 abbrev left : List ℕ → List ℕ → ℕ → ℕ → ℕ

@@ -25,14 +25,16 @@ same-length c = search needs
 
 returns : tie.Need-returns
 returns c =
-    let a = c .before .before .before .before .before .before .before .before .args in
+    let s : tie.Start = search needs in
+    let a = s .args in
     let r = c .before .before .put-index in
     let e = sym (index-yes (a .has-idx) (a .table .now) (a .size) (a .off) (slice (a .n) (a .n + a .m) (a .scratch .now)) (c .before .before .before .before .if1 .taken)) in
     (r .ensures .0 ∙ ap (λ (l : List ℕ). a .at + length l) e, r .ensures .1 ∙ ap (puts (a .out .now) (a .at)) e)
 
 returns-2 : tie.Need-returns-2
 returns-2 c =
-    let a = c .before .before .before .before .args in
+    let s : tie.Start = search needs in
+    let a = s .args in
     let e = sym (index-no (a .has-idx) (a .table .now) (a .size) (a .off) (slice (a .n) (a .n + a .m) (a .scratch .now)) (c .if1 .left)) in
     (sym (add-zero (a .at)) ∙ ap (λ (l : List ℕ). a .at + length l) e, sym (puts-nil (a .out .now) (a .at)) ∙ ap (puts (a .out .now) (a .at)) e)
 

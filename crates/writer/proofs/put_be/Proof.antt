@@ -3,6 +3,7 @@ use Prim.Native.Nat.{_≤_}
 use mathlib.Core.Path.{_≡_, refl, sym, _∙_}
 use native.Mathlib.Omega.{arith}
 use lib.ListN.{length, length-set}
+use borrow.Author.Needs.{needs}
 use Rattle.scheme.specs.Bytes.{be}
 use Rattle.laws.specs.Puts.{puts}
 use Rattle.writer.proofs.Numbers.{be-turn}
@@ -36,7 +37,8 @@ loop-less c = omega arith
 
 loop-again : tie.Need-loop-again Inv-loop μ-loop
 loop-again c =
-    let a = c .before .before .before .before .args in
+    let s : tie.Start Inv-loop μ-loop = search needs in
+    let a = s .args in
     let l = c .before .before .loop in
     (omega arith, simp length-set (l .inv .1), rw (c .low-byte .ensures) (be-turn (l .out) (a .at) (l .i) (l .x) (puts (a .out .now) (a .at) (be (a .k) (a .n))) (omega arith) (l .inv .2)))
 

@@ -3,6 +3,7 @@ use Prim.Native.Nat.{_≤_, _-_, _+_}
 use native.Mathlib.Omega.{arith}
 use lib.ListN.{length}
 use lib.Seq.{slice}
+use borrow.Author.Needs.{needs}
 use Rattle.scheme.specs.Write.{cellBytes, allBytes}
 use Rattle.laws.specs.Puts.{puts}
 use Rattle.writer.specs.Bytes.{placedCell, placedCells}
@@ -17,7 +18,9 @@ abbrev μ-loop : tie.MeasureT-loop
 μ-loop table bytes n m size scratch out₀ at p₀ to₀ out p to = m - p
 
 loop-holds : tie.Need-loop-holds Inv-loop μ-loop
-loop-holds c = let a = c .before .before .before .before .args in (omega arith, rw (list-start (a .scratch .now) (a .n) (a .m)) (next-start (a .out .now) (a .at) (allBytes (a .size) (placedCells (a .table .now) (a .bytes .now) (a .scratch .now) (a .n) (slice (a .n) (a .n + a .m) (a .scratch .now)))) (c .before .before .before .before .pre .1 .1 .1 .1 .1)))
+loop-holds c =
+    let s : tie.Start Inv-loop μ-loop = search needs in
+    let a = s .args in (omega arith, rw (list-start (a .scratch .now) (a .n) (a .m)) (next-start (a .out .now) (a .at) (allBytes (a .size) (placedCells (a .table .now) (a .bytes .now) (a .scratch .now) (a .n) (slice (a .n) (a .n + a .m) (a .scratch .now)))) (s .pre .1 .1 .1 .1 .1)))
 
 add-entry : tie.Need-add-entry Inv-loop μ-loop
 add-entry c = omega arith
@@ -27,12 +30,13 @@ entry-requires c κs = omega arith
 
 put-cell-requires : tie.Need-put-cell-requires Inv-loop μ-loop
 put-cell-requires c κs =
-    let a = c .before .before .before .before .before .before .before .before .args in
+    let s : tie.Start Inv-loop μ-loop = search needs in
+    let a = s .args in
     let l = c .before .before .before .loop in
     let x = c .before .entry in
-    let b = c .before .before .before .before .before .before .before .before .pre .1 .1 .1 .1 .0 (x .result) (list-mem (a .scratch .now) (a .n) (a .m) (l .p) (x .result) (omega arith) (omega arith) (x .ensures)) in
+    let b = s .pre .1 .1 .1 .1 .0 (x .result) (list-mem (a .scratch .now) (a .n) (a .m) (l .p) (x .result) (omega arith) (omega arith) (x .ensures)) in
     let N = rw (cells-next (a .scratch .now) (a .n) (a .m) (l .p) (x .result) (omega arith) (omega arith) (x .ensures) (a .table .now) (a .bytes .now) (a .scratch .now) (a .size)) at (l .inv .1) in
-    (c .before .before .before .before .before .before .before .before .pre .0 (x .result) b, (b, (omega arith, (omega arith, next-room (l .out) (l .to) (cellBytes (a .size) (placedCell (a .table .now) (a .bytes .now) (a .scratch .now) (a .n) (x .result))) _ N))))
+    (s .pre .0 (x .result) b, (b, (omega arith, (omega arith, next-room (l .out) (l .to) (cellBytes (a .size) (placedCell (a .table .now) (a .bytes .now) (a .scratch .now) (a .n) (x .result))) _ N))))
 
 add-p : tie.Need-add-p Inv-loop μ-loop
 add-p c = omega arith
@@ -42,7 +46,8 @@ loop-less c = omega arith
 
 loop-again : tie.Need-loop-again Inv-loop μ-loop
 loop-again c =
-    let a = c .before .before .before .before .before .before .before .before .before .before .before .args in
+    let s : tie.Start Inv-loop μ-loop = search needs in
+    let a = s .args in
     let l = c .before .before .before .before .before .before .loop in
     let x = c .before .before .before .before .entry in
     let r = c .before .before .put-cell in
@@ -50,12 +55,15 @@ loop-again c =
     (omega arith, next-turn (l .out) (l .to) (cellBytes (a .size) (placedCell (a .table .now) (a .bytes .now) (a .scratch .now) (a .n) (x .result))) _ N (r .last .1 .1 .1 .1 .1 .1 .0) (r .result) (r .ensures .1) (r .ensures .0))
 
 same-length : tie.Need-same-length Inv-loop μ-loop
-same-length c = next-length (c .before .before .before .before .before .before .args .out .now) (c .before .before .before .before .before .before .args .at) _ (c .before .loop .out) (c .before .loop .to) _ (c .before .loop .inv .1)
+same-length c =
+    let s : tie.Start Inv-loop μ-loop = search needs in
+    next-length (s .args .out .now) (s .args .at) _ (c .before .loop .out) (c .before .loop .to) _ (c .before .loop .inv .1)
 
 returns : tie.Need-returns Inv-loop μ-loop
 unfolding placedCells
 returns c =
-    let a = c .before .before .before .before .before .before .args in
+    let s : tie.Start Inv-loop μ-loop = search needs in
+    let a = s .args in
     let l = c .before .loop in
     let e = list-end (a .scratch .now) (a .n) (a .m) (l .p) (omega arith) (omega arith) in
     let r = next-done (l .out) (l .to) (rw e at (l .inv .1)) in

@@ -72,14 +72,16 @@ loop-again c =
 
 same-length : tie.Need-same-length Inv-loop μ-loop
 same-length c =
-    let a = c .before .before .before .before .before .args in
+    let s : tie.Start Inv-loop μ-loop = search needs in
+    let a = s .args in
     let l = c .before .loop in
     next-length (a .out .now) (a .at) _ (l .out) (l .to) _ (l .inv .2)
 
 returns : tie.Need-returns Inv-loop μ-loop
 unfolding indexOf
 returns c =
-    let a = c .before .before .before .before .before .args in
+    let s : tie.Start Inv-loop μ-loop = search needs in
+    let a = s .args in
     let l = c .before .loop in
     let e = list-end (a .scratch .now) (a .n) (a .m) (l .p) (omega arith) (omega arith) in
     let r = next-done (l .out) (l .to) (rw e at (l .inv .2)) in

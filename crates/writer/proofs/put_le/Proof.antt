@@ -3,6 +3,7 @@ use Prim.Native.Nat.{_≤_, _-_, _+_}
 use mathlib.Core.Path.{_≡_, refl, sym, _∙_}
 use native.Mathlib.Omega.{arith}
 use lib.ListN.{length, length-set}
+use borrow.Author.Needs.{needs}
 use Rattle.scheme.specs.Bytes.{le}
 use Rattle.laws.specs.Puts.{puts}
 use Rattle.writer.proofs.Numbers.{le-turn}
@@ -40,7 +41,8 @@ loop-less c = omega arith
 
 loop-again : tie.Need-loop-again Inv-loop μ-loop
 loop-again c =
-    let a = c .before .before .before .before .args in
+    let s : tie.Start Inv-loop μ-loop = search needs in
+    let a = s .args in
     let l = c .before .before .loop in
     (omega arith, simp length-set (l .inv .1), rw (c .low-byte .ensures) (le-turn (l .out) (a .at) (l .i) (a .k) (l .x) (puts (a .out .now) (a .at) (le (a .k) (a .n))) (omega arith) (l .inv .2)))
 

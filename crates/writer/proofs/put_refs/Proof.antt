@@ -2,6 +2,7 @@
 use Prim.Native.Nat.{_≤_, _-_, _+_}
 use native.Mathlib.Omega.{arith}
 use lib.ListN.{length, drop}
+use borrow.Author.Needs.{needs}
 use Rattle.scheme.specs.Write.{allBe}
 use Rattle.laws.specs.Records.{refsAt}
 use Rattle.laws.specs.Puts.{puts}
@@ -20,7 +21,9 @@ field-requires : tie.Need-field-requires Inv-loop μ-loop
 field-requires c κs = (omega arith, omega arith)
 
 loop-holds : tie.Need-loop-holds Inv-loop μ-loop
-loop-holds c = let a = c .before .before .before .before .args in (omega arith, next-start (a .out .now) (a .at) (allBe (a .size) (placesOf (a .scratch .now) (a .n) (refsAt (a .table .now) (a .x)))) (omega arith))
+loop-holds c =
+    let s : tie.Start Inv-loop μ-loop = search needs in
+    let a = s .args in (omega arith, next-start (a .out .now) (a .at) (allBe (a .size) (placesOf (a .scratch .now) (a .n) (refsAt (a .table .now) (a .x)))) (omega arith))
 
 add-field : tie.Need-add-field Inv-loop μ-loop
 add-field c = omega arith
@@ -33,19 +36,22 @@ mul-entry c = omega arith
 
 add-entry : tie.Need-add-entry Inv-loop μ-loop
 add-entry c =
-    let b = c .before .before .before .before .before .before .before .pre .0 .back (c .before .before .loop .j) (omega arith) in
+    let s : tie.Start Inv-loop μ-loop = search needs in
+    let b = s .pre .0 .back (c .before .before .loop .j) (omega arith) in
     omega arith
 
 entry-requires : tie.Need-entry-requires Inv-loop μ-loop
 entry-requires c κs =
-    let b = c .before .before .before .before .before .before .before .pre .0 .back (c .before .before .loop .j) (omega arith) in
+    let s : tie.Start Inv-loop μ-loop = search needs in
+    let b = s .pre .0 .back (c .before .before .loop .j) (omega arith) in
     omega arith
 
 put-be-requires : tie.Need-put-be-requires Inv-loop μ-loop
 put-be-requires c κs =
-    let a = c .before .before .before .before .before .before .before .before .before .args in
+    let s : tie.Start Inv-loop μ-loop = search needs in
+    let a = s .args in
     let l = c .before .before .before .before .loop in
-    let N = rw (refs-next (a .table .now) (a .scratch .now) (a .n) (a .size) (a .x) (l .j) (c .before .before .field2 .result) (c .before .before .before .before .before .before .before .before .before .pre .0) (omega arith) (c .before .before .field2 .ensures)) at (l .inv .1) in
+    let N = rw (refs-next (a .table .now) (a .scratch .now) (a .n) (a .size) (a .x) (l .j) (c .before .before .field2 .result) (s .pre .0) (omega arith) (c .before .before .field2 .ensures)) at (l .inv .1) in
     next-be-room (l .out) (l .to) (a .size) _ _ N
 
 add-j : tie.Need-add-j Inv-loop μ-loop
@@ -56,20 +62,24 @@ loop-less c = omega arith
 
 loop-again : tie.Need-loop-again Inv-loop μ-loop
 loop-again c =
-    let a = c .before .before .before .before .before .before .before .before .before .before .before .before .args in
+    let s : tie.Start Inv-loop μ-loop = search needs in
+    let a = s .args in
     let l = c .before .before .before .before .before .before .before .loop in
     let r = c .before .before .put-be in
-    let N = rw (refs-next (a .table .now) (a .scratch .now) (a .n) (a .size) (a .x) (l .j) (c .before .before .before .before .before .field2 .result) (c .before .before .before .before .before .before .before .before .before .before .before .before .pre .0) (omega arith) (c .before .before .before .before .before .field2 .ensures), ← (c .before .before .before .before .entry .ensures)) at (l .inv .1) in
+    let N = rw (refs-next (a .table .now) (a .scratch .now) (a .n) (a .size) (a .x) (l .j) (c .before .before .before .before .before .field2 .result) (s .pre .0) (omega arith) (c .before .before .before .before .before .field2 .ensures), ← (c .before .before .before .before .entry .ensures)) at (l .inv .1) in
     (omega arith, next-be (l .out) (l .to) (a .size) (c .before .before .before .before .entry .result) _ N (r .last .0) (r .result) (r .ensures .1) (r .ensures .0))
 
 same-length : tie.Need-same-length Inv-loop μ-loop
-same-length c = next-length (c .before .before .before .before .before .before .args .out .now) (c .before .before .before .before .before .before .args .at) _ (c .before .loop .out) (c .before .loop .to) _ (c .before .loop .inv .1)
+same-length c =
+    let s : tie.Start Inv-loop μ-loop = search needs in
+    next-length (s .args .out .now) (s .args .at) _ (c .before .loop .out) (c .before .loop .to) _ (c .before .loop .inv .1)
 
 returns : tie.Need-returns Inv-loop μ-loop
 returns c =
-    let a = c .before .before .before .before .before .before .args in
+    let s : tie.Start Inv-loop μ-loop = search needs in
+    let a = s .args in
     let l = c .before .loop in
-    let e = refs-done (a .table .now) (a .scratch .now) (a .n) (a .size) (a .x) (l .j) (c .before .before .before .before .before .before .pre .0) (omega arith) in
+    let e = refs-done (a .table .now) (a .scratch .now) (a .n) (a .size) (a .x) (l .j) (s .pre .0) (omega arith) in
     let r = next-done (l .out) (l .to) (rw e at (l .inv .1)) in
     (r .0, r .1)
 

@@ -1,0 +1,62 @@
+-- What reading and appending a record answer, and their numbers in the definitions. Assumes nothing.
+use Prim.Native.Nat.{ℕ}
+use mathlib.Core.Path.{_≡_, refl, sym, _∙_}
+use mathlib.Core.Bool.{Bool, true, false, cond}
+use lib.Dec.{ltb}
+use mathlib.Core.List.{List}
+use lib.ListN.{length, set}
+use Rattle.scheme.specs.Res.{Res, bad, ok, then, check, refusal}
+use Rattle.scheme.specs.Refusals.{NOCELL, FULL}
+use Rattle.records.specs.declared.CellRecord.{CellRecord}
+use Rattle.records.specs.declared.RecordRead.{RecordRead}
+use Rattle.records.specs.declared.RecordRead.the-variants as read
+use Rattle.records.specs.declared.RecordAdded.{RecordAdded}
+use Rattle.records.specs.declared.RecordAdded.the-variants as added
+
+-- the record r at number n, of which the first count are in use
+abbrev pub readOf : ℕ → ℕ → CellRecord → RecordRead
+readOf n count r = cond (ltb n count) (read.Record r) (read.Refused (refusal NOCELL 0))
+
+-- a record at number count, stored or not
+abbrev pub addedOf : Bool → ℕ → RecordAdded
+addedOf stored count = cond stored (added.Number count) (added.Refused (refusal FULL 0))
+
+abbrev pub readPaper : RecordRead → Res CellRecord
+readPaper (read.Record r) = ok r
+readPaper (read.Refused r) = bad r
+
+abbrev pub addedPaper : RecordAdded → Res ℕ
+addedPaper (added.Number n) = ok n
+addedPaper (added.Refused r) = bad r
+
+pub read-inj : (a b : RecordRead) → readPaper a ≡ readPaper b → a ≡ b
+read-inj (read.Record r) (read.Record s) e = cc
+read-inj (read.Record r) (read.Refused s) e = cc
+read-inj (read.Refused r) (read.Record s) e = cc
+read-inj (read.Refused r) (read.Refused s) e = cc
+
+pub added-inj : (a b : RecordAdded) → addedPaper a ≡ addedPaper b → a ≡ b
+added-inj (added.Number n) (added.Number m) e = cc
+added-inj (added.Number n) (added.Refused s) e = cc
+added-inj (added.Refused r) (added.Number m) e = cc
+added-inj (added.Refused r) (added.Refused s) e = cc
+
+-- the answers, as the definitions have them: NOCELL, FULL, or the value
+pub read-is : (n count : ℕ) (r : CellRecord) → readPaper (readOf n count r) ≡ then (check (ltb n count) (refusal NOCELL 0)) (λ _. ok r)
+read-is n count r = go (ltb n count)
+  where
+    go : (b : Bool) → readPaper (cond b (read.Record r) (read.Refused (refusal NOCELL 0))) ≡ then (check b (refusal NOCELL 0)) (λ _. ok r)
+    go true = refl
+    go false = refl
+
+pub added-is : (stored : Bool) (count : ℕ) → addedPaper (addedOf stored count) ≡ then (check stored (refusal FULL 0)) (λ _. ok count)
+added-is true count = refl
+added-is false count = refl
+
+-- two outcomes that meet a contract are equal
+pub one-read : (n count : ℕ) (r : CellRecord) (a b : RecordRead) → a ≡ readOf n count r → b ≡ readOf n count r → a ≡ b
+one-read n count r a b p q = p ∙ sym q
+
+pub one-append : (ys : List CellRecord) (count : ℕ) (r : CellRecord) (a b : RecordAdded) (ys₁ ys₂ : List CellRecord) → (a ≡ addedOf (ltb count (length ys)) count) × (ys₁ ≡ set ys count r)
+    → (b ≡ addedOf (ltb count (length ys)) count) × (ys₂ ≡ set ys count r) → (a ≡ b) × (ys₁ ≡ ys₂)
+one-append ys count r a b ys₁ ys₂ p q = (p .0 ∙ sym (q .0), p .1 ∙ sym (q .1))
