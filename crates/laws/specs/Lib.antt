@@ -12,7 +12,6 @@ pub mod CellRound
 pub mod Accept
 pub mod BagRound
 pub mod WrittenBack
-pub mod Named
 pub mod Add
 pub mod Kept
 pub mod Wf
