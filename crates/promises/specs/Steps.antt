@@ -43,11 +43,11 @@ pub data Ran : Memory → Type 0 where
   reads : (whole : Bool) (n : ℕ) (t d s rs reply : List ℕ) (r : ReadAnswer) (n′ : ℕ) (t′ d′ s′ rs′ : List ℕ) → Ran (memory n t d) → Small reply
       → Reads whole n t d s rs reply r n′ t′ d′ s′ rs′ → Ran (memory n′ t′ d′)
 
-ran-reached : (m : Memory) → Ran m → Reached m
-ran-reached m (starts n t d n′ t′ d′ p) = subst Reached (clear-step p) (cleared (memory n t d) (sym (p .answer)))
-ran-reached m (clears n t d r n′ t′ d′ h p) = subst Reached (clear-step p) (called (memory n t d) clear (ran-reached (memory n t d) h) tt)
-ran-reached m (adds n t d c r n′ t′ d′ h b p) = subst Reached (add-step {c = c} p) (called (memory n t d) (add-cell (builderOf c)) (ran-reached (memory n t d) h) b)
-ran-reached m (reads whole n t d s rs reply r n′ t′ d′ s′ rs′ h b p) = subst Reached (read-step p) (called (memory n t d) (read-bag whole s rs reply) (ran-reached (memory n t d) h) b)
+ran-reached : (m : Memory) → Ran m → Reached after m
+ran-reached m (starts n t d n′ t′ d′ p) = subst (Reached after) (clear-step p) (cleared (memory n t d) (sym (p .answer)))
+ran-reached m (clears n t d r n′ t′ d′ h p) = subst (Reached after) (clear-step p) (called (memory n t d) clear (ran-reached (memory n t d) h) tt)
+ran-reached m (adds n t d c r n′ t′ d′ h b p) = subst (Reached after) (add-step {c = c} p) (called (memory n t d) (add-cell (builderOf c)) (ran-reached (memory n t d) h) b)
+ran-reached m (reads whole n t d s rs reply r n′ t′ d′ s′ rs′ h b p) = subst (Reached after) (read-step p) (called (memory n t d) (read-bag whole s rs reply) (ran-reached (memory n t d) h) b)
 
 -- demand 3, of all memory that the code leaves
 pub ran-demand-3 : (m : Memory) → Ran m → Demand3 m

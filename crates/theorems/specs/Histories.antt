@@ -72,10 +72,10 @@ TypedCall clear = Unit {0}
 TypedCall (add-cell b) = Typed b
 TypedCall (read-bag whole scratch roots reply) = Small reply
 
--- memory that calls made, from a clearing that was accepted on
-pub data Reached : Memory → Type 0 where
-  cleared : (m : Memory) → (clearing (m .count) (m .table) (m .bytes)) .answer ≡ ok tt → Reached (after m clear)
-  called : (m : Memory) (c : Call) → Reached m → TypedCall c → Reached (after m c)
+-- memory that calls made, from a clearing that was accepted on; `leaves` says what a call leaves
+pub data Reached (leaves : Memory → Call → Memory) : Memory → Type 0 where
+  cleared : (m : Memory) → (clearing (m .count) (m .table) (m .bytes)) .answer ≡ ok tt → Reached leaves (leaves m clear)
+  called : (m : Memory) (c : Call) → Reached leaves m → TypedCall c → Reached leaves (leaves m c)
 
 -- what a read answers that finds root, and the k cells that it reaches, in the store already
 abbrev pub found : Memory → ℕ → ℕ → ℕ → List ℕ → List ℕ → ReadOut
@@ -264,7 +264,7 @@ cleared-kept m e = go (sized (m .table) (m .bytes)) refl e
       is = rw q;
     }
 
-reached-kept : (m : Memory) → Reached m → Kept-memory m
+reached-kept : (m : Memory) → Reached after m → Kept-memory m
 reached-kept m (cleared m₀ e) = cleared-kept m₀ e
 reached-kept m (called m₀ c r t) =
     let k = reached-kept m₀ r in
@@ -277,5 +277,5 @@ reached-kept m (called m₀ c r t) =
     }
 
 -- demand 3
-pub demand-3 : (m : Memory) → Reached m → Demand3 m
+pub demand-3 : (m : Memory) → Reached after m → Demand3 m
 demand-3 m r = let k = reached-kept m r in subst Demand3 (sym (k .is)) (demand-here (k .cap) (k .few) (k .store) (k .kept))

@@ -17,3 +17,4 @@ pub mod Writing
 pub mod Structure
 pub mod Samples
 pub mod Histories
+pub mod ShutOut
