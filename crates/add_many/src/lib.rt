@@ -83,7 +83,8 @@ fn add_each(
 ) -> AddedMany
     requires { ⌜ sound (now count) (now table) (now bytes) ≡ true ⌝ }
     requires { ⌜ (k * 7 ≤ length (now heads)) × (k * 128 ≤ length (now blocks)) × (k ≤ length (now numbers)) ⌝ }
-    ensures { λ r. ⌜ AddsMany (now (heads .entry)) (now (blocks .entry)) k (now (count .entry)) (now (table .entry)) (now (bytes .entry)) (now (numbers .entry)) r (now (count .exit)) (now (table .exit)) (now (bytes .exit)) (now (numbers .exit)) ⌝ }
+    ensures { λ r. ⌜ AddsMany (now (heads .entry)) (now (blocks .entry)) k (now (count .entry)) (now (table .entry)) (now (bytes .entry)) (now (numbers .entry))
+        r (now (count .exit)) (now (table .exit)) (now (bytes .exit)) (now (numbers .exit)) ⌝ }
 {
     let mut i = 0;
     while i < k {
@@ -111,7 +112,10 @@ pub fn add_many(
     blocks: &[u8],
     numbers: &mut [u32],
 ) -> AddedMany
-    ensures { λ r. ⌜ AddsMany (now (heads .entry)) (now (blocks .entry)) (cellsIn (length (now (heads .entry))) (length (now (blocks .entry))) (length (now (numbers .entry)))) (now (count .entry)) (now (table .entry)) (now (bytes .entry)) (now (numbers .entry)) r (now (count .exit)) (now (table .exit)) (now (bytes .exit)) (now (numbers .exit)) ⌝ }
+    ensures { λ r. ⌜ AddsMany (now (heads .entry)) (now (blocks .entry))
+        (cellsIn (length (now (heads .entry))) (length (now (blocks .entry))) (length (now (numbers .entry))))
+        (now (count .entry)) (now (table .entry)) (now (bytes .entry)) (now (numbers .entry))
+        r (now (count .exit)) (now (table .exit)) (now (bytes .exit)) (now (numbers .exit)) ⌝ }
 {
     let k = cells_in(heads.len(), blocks.len(), numbers.len());
     if k == 0 {

@@ -1,20 +1,20 @@
 -- The four ways out of the test of a checksum. Assumes nothing.
-use Prim.Native.Nat.{ℕ, suc, zero, _+_, _*_, _≤_, _<_}
-use mathlib.Core.Path.{_≡_, refl, sym, ap, _∙_}
+use Prim.Native.Nat.{ℕ, suc, _+_, _*_, _≤_, _<_}
+use mathlib.Core.Path.{_≡_}
 use mathlib.Core.Bool.{Bool, true, false}
-use mathlib.Core.List.{List, [], _∷_}
+use mathlib.Core.List.{List}
 use native.Mathlib.Omega.{arith}
 use lib.ListN.{length, take, drop, getD}
 use lib.Seq.{drop-cons}
 use borrow.Author.Tests.{eq-eqb, ne-eqb}
 use Rattle.scheme.specs.Refusals.{CRC}
-use Rattle.scheme.specs.Res.{Res, bad, ok, refusal}
+use Rattle.scheme.specs.Res.{bad, ok, refusal}
 use Rattle.scheme.specs.declared.Refusal.{Refusal}
-use Rattle.scheme.specs.Bytes.{chunk, unle}
+use Rattle.scheme.specs.Bytes.{unle}
 use Rattle.scheme.specs.Crc.{crcOf}
 use Rattle.scheme.specs.Bag.{checksum}
 use Rattle.bits.specs.Field.{skipAt}
-use Rattle.bits.specs.Laws.{skip-past, chunk-whole, chunk-cases, skip-whole}
+use Rattle.bits.specs.Laws.{skip-past, chunk-whole, chunk-cases}
 
 module _ (b : List ℕ) (p : ℕ) (checked : Bool) where
   pub crc-none : checked ≡ false → ok p ≡ checksum checked b p

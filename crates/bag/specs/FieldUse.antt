@@ -1,10 +1,10 @@
 -- What a field that is there answers. Assumes nothing.
-use Prim.Native.Nat.{ℕ, suc, _+_, _-_, _*_, _≤_, _<_}
-use mathlib.Core.Path.{_≡_, refl, sym, ap, _∙_}
+use Prim.Native.Nat.{ℕ, _+_, _-_, _≤_}
+use mathlib.Core.Path.{_≡_, sym, ap, _∙_}
 use mathlib.Core.List.{List}
 use native.Mathlib.Omega.{arith}
 use lib.ListN.{length}
-use Rattle.scheme.specs.Res.{Res, bad, ok}
+use Rattle.scheme.specs.Res.{bad, ok}
 use Rattle.scheme.specs.declared.Refusal.{Refusal}
 use Rattle.scheme.specs.Bag.{Past}
 use Rattle.bits.specs.Field.{fieldAt, numberAt}

@@ -1,11 +1,11 @@
 -- The links of a bag, one reference, one root and one cell at a time. Assumes nothing.
-use mathlib.Core.Path.{_≡_, refl, sym, ap, _∙_, subst}
-use Prim.Native.Nat.{ℕ, zero, suc, _+_, _-_, _*_, _≤_, _<_}
+use mathlib.Core.Path.{_≡_, refl, ap, _∙_}
+use Prim.Native.Nat.{ℕ, suc, _+_, _-_, _≤_, _<_}
 use native.Mathlib.Nat.{add-zero, zero-add}
 use native.Mathlib.Omega.{arith}
-use mathlib.Core.Bool.{Bool, true, false, not, _||_}
+use mathlib.Core.Bool.{Bool, not, _||_}
 use mathlib.Core.List.{List, [], _∷_, _++_}
-use lib.ListN.{length, take, drop, getD}
+use lib.ListN.{length, take, getD}
 use lib.Seq.{take-suc, length-take-le}
 use lib.Dec.{leb, ltb}
 use borrow.Author.Tests.{lt-ltb, le-ltb}
@@ -16,7 +16,7 @@ use Rattle.scheme.specs.Cells.{Cell}
 use Rattle.scheme.specs.Bag.{refsOk, links, rootsOk}
 use Rattle.bits.specs.Field.{numberAt, numbersAt}
 use Rattle.bag.specs.Places.{cellAt, cellsAt}
-use Rattle.bag.specs.Scan.{cells-append, cells-length, cells-cons}
+use Rattle.bag.specs.Scan.{cells-append, cells-length}
 
 -- one reference of the cell at place i of n: BACK, RANGE
 unfoldable pub linkOk : ℕ → ℕ → ℕ → Res (Unit {0})

@@ -1,26 +1,26 @@
 -- A bag by place is the bag of the definitions: the ways out of what follows the cells, and the parts put together. Assumes nothing.
-use mathlib.Core.Path.{_≡_, refl, sym, ap, _∙_, subst}
-use Prim.Native.Nat.{ℕ, zero, suc, _+_, _*_, _≤_, _<_}
+use mathlib.Core.Path.{_≡_, refl, sym, ap, _∙_}
+use Prim.Native.Nat.{ℕ, _≤_}
 use native.Mathlib.Omega.{arith}
 use mathlib.Core.Bool.{Bool, not, _||_}
 use mathlib.Core.List.{List}
-use lib.ListN.{length, take, getD}
+use lib.ListN.{length, take}
 use lib.Seq.{getD-take}
 use lib.Dec.{leb}
 use Rattle.scheme.specs.Refusals.{EXTRA}
 use Rattle.scheme.specs.Res.{Res, bad, ok, then, check, refusal}
 use Rattle.scheme.specs.declared.Refusal.{Refusal}
 use Rattle.scheme.specs.Cells.{Cell}
-use Rattle.scheme.specs.Bag.{Past, rawCells, checksum, links, rootsOk, Bag, bag}
+use Rattle.scheme.specs.Bag.{Past, rawCells, checksum, links, rootsOk, bag}
 use Rattle.laws.specs.Accept.{then-use}
 use Rattle.laws.specs.Puts.{puts, puts-length}
 use Rattle.bits.specs.Field.{numbersAt}
 use Rattle.header.specs.Header.{headerAt}
 use Rattle.header.specs.Tie.{rootsIn, afterHead, bag-header}
-use Rattle.header.specs.Bounds.{Within, header-within}
+use Rattle.header.specs.Bounds.{header-within}
 use Rattle.header.specs.declared.Header.{Header}
 use Rattle.bag.specs.Places.{cellsAt, places, scanned}
-use Rattle.bag.specs.Scan.{Seen, scan-seen, marks-front, marks-get}
+use Rattle.bag.specs.Scan.{Seen, scan-seen, marks-front}
 use Rattle.bag.specs.Links.{extraOk}
 use Rattle.bag.specs.Paper.{opened, afterScan, AreCells, OpensCells, bagOf, paperOf, Kept, Opens}
 use Rattle.bag.specs.declared.OpenBag.{OpenBag}

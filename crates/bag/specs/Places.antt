@@ -1,8 +1,7 @@
 -- The cells of a bag by place: what a reader that leaves each cell's place in the scratch has seen of the cells.
-use Prim.Native.Nat.{ℕ, zero, suc, _+_, _*_, _≤_, _<_}
+use Prim.Native.Nat.{ℕ, zero, suc}
 use mathlib.Core.Path.{_≡_}
 use mathlib.Core.List.{List, [], _∷_}
-use lib.ListN.{length, take, getD}
 use Rattle.scheme.specs.Res.{Res, bad, ok, then}
 use Rattle.scheme.specs.Cells.{Cell, blank}
 use Rattle.scheme.specs.Bag.{Past, rawCell, rawCells}

@@ -1,18 +1,18 @@
 -- One cell of a scan, and what a scan that comes to its end has seen. Assumes nothing.
-use mathlib.Core.Path.{_≡_, refl, sym, ap, _∙_, subst}
-use Prim.Native.Nat.{ℕ, zero, suc, _+_, _-_, _*_, _≤_, _<_}
+use mathlib.Core.Path.{_≡_, refl, ap}
+use Prim.Native.Nat.{ℕ, zero, suc, _+_, _-_, _≤_, _<_}
 use native.Mathlib.Nat.{not-suc-le-zero, le-of-suc-le-suc}
 use native.Mathlib.Omega.{arith}
 use mathlib.Core.List.{List, [], _∷_, _++_}
-use lib.ListN.{length, take, drop, getD, set, List·getD-append}
-use lib.Seq.{take-at, getD-take}
+use lib.ListN.{length, take, drop, getD, set}
+use lib.Seq.{take-at}
 use Rattle.scheme.specs.Res.{Res, bad, ok, then}
 use Rattle.scheme.specs.declared.Refusal.{Refusal}
-use Rattle.scheme.specs.Cells.{Cell, blank, at}
+use Rattle.scheme.specs.Cells.{Cell, at}
 use Rattle.scheme.specs.Bag.{Past, rawCell, rawCells}
 use Rattle.laws.specs.Puts.{puts, puts-start}
 use Rattle.laws.specs.Accept.{then-use}
-use Rattle.bag.specs.Places.{IsCell, cellOf, cellAt, cellsAt, behind, places, scanned}
+use Rattle.bag.specs.Places.{IsCell, cellAt, cellsAt, places, scanned}
 
 module _ (b : List ℕ) (size n p : ℕ) where
   pub scan-cell : (c : Past Cell) → rawCell b size p ≡ ok c → scanned b size (suc n) p ≡ scanned b size n (c .next)
@@ -56,11 +56,6 @@ pub cell-is : (b : List ℕ) (size p : ℕ) (c : Past Cell) → rawCell b size p
 unfolding cellAt
 cell-is b size p c e = rw e
 
--- the cells at places, one by one
-pub cells-cons : (b : List ℕ) (size p : ℕ) (ps : List ℕ) → cellsAt b size (p ∷ ps) ≡ cellAt b size p ∷ cellsAt b size ps
-unfolding cellsAt
-cells-cons b size p ps = refl
-
 pub cells-append : (b : List ℕ) (size : ℕ) (ps qs : List ℕ) → cellsAt b size (ps ++ qs) ≡ cellsAt b size ps ++ cellsAt b size qs
 unfolding cellsAt
 cells-append b size [] qs = refl
@@ -102,6 +97,3 @@ scan-seen b size (suc n) p cs e =
 -- the scratch afterwards begins with the places
 pub marks-front : (s ps : List ℕ) (n : ℕ) → length ps ≡ n → n ≤ length s → take n (puts s 0 ps) ≡ ps
 marks-front s ps n e h = rw (puts-start s ps (omega arith)) (take-at ps (drop (length ps) s) n e)
-
-pub marks-get : (m ps : List ℕ) (n k : ℕ) → take n m ≡ ps → k < n → getD m k 0 ≡ getD ps k 0
-marks-get m ps n k e h = sym (getD-take n m k 0 h) ∙ ap (λ (l : List ℕ). getD l k 0) e

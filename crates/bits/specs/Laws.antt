@@ -38,9 +38,6 @@ chunk-cases {A} b p n f g = go (leb (p + n) (length b)) refl
 pub chunk-inv : (b : List ℕ) (p n : ℕ) (xs : List ℕ) → chunk b p n ≡ ok xs → (p + n ≤ length b) × (xs ≡ take n (drop p b))
 chunk-inv b p n xs e = chunk-cases b p n (λ h g. (h, cc)) (λ h g. let z : _≡_ {A = ℕ} 0 1 = cc in absurd (omega arith))
 
-pub chunk-cut-inv : (b : List ℕ) (p n : ℕ) (r : Refusal) → chunk b p n ≡ bad r → (length b < p + n) × (r ≡ refusal 2 p)
-chunk-cut-inv b p n r e = chunk-cases b p n (λ h g. let z : _≡_ {A = ℕ} 0 1 = cc in absurd (omega arith)) (λ h g. (h, cc))
-
 -- a part of the front of a list
 pub drop-take : (m n : ℕ) (l : List ℕ) → drop m (take (m + n) l) ≡ take n (drop m l)
 drop-take zero n l = rw zero-add
@@ -189,9 +186,3 @@ module _ (b : List ℕ) (k : ℕ) where
   pub length-numbers : (n p : ℕ) → length (numbersAt b k n p) ≡ n
   length-numbers zero p = refl
   length-numbers (suc n) p = ap suc (length-numbers n (p + k))
-
-  -- the number at position j
-  pub numbers-get : (n p j : ℕ) → j < n → getD (numbersAt b k n p) j 0 ≡ numberAt b k (p + j * k)
-  numbers-get zero p j h = absurd (omega arith)
-  numbers-get (suc n) p zero h = let e : p + 0 * k ≡ p = omega arith in rw e
-  numbers-get (suc n) p (suc j) h = let e : p + suc j * k ≡ p + k + j * k = omega arith in rw e (numbers-get n (p + k) j (omega arith))

@@ -1,5 +1,5 @@
 -- What max_depth answers in the definitions' words, what it promises, and that the promise leaves one outcome.
-use mathlib.Core.Path.{_≡_, refl}
+use mathlib.Core.Path.{_≡_}
 use Prim.Native.Nat.{ℕ}
 use mathlib.Core.List.{List}
 use Rattle.scheme.specs.Res.{Res, bad, ok}

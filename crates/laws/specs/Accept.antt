@@ -1,27 +1,23 @@
 -- What an accepted read says of its bytes: the cells are whole, fit to be stored, and linked.
 -- Assumes nothing.
-use mathlib.Core.Path.{_≡_, refl, sym, ap, _∙_, subst}
-use mathlib.Core.Logic.{_⊎_, inl, inr, _≢_}
+use mathlib.Core.Path.{_≡_, refl, ap}
+use mathlib.Core.Logic.{_≢_}
 use Prim.Native.Nat.{ℕ, zero, suc, _+_, _-_, _*_, _/_, _%_, _^_, _≤_, _<_}
-use native.Mathlib.Nat.{not-suc-le-zero, zero-add}
+use native.Mathlib.Nat.{not-suc-le-zero}
 use native.Mathlib.Omega.{arith}
 use mathlib.Core.Bool.{Bool, true, false, cond, not, _||_, _&&_}
-use mathlib.Core.List.{List, [], _∷_, _++_, map, append-assoc, append-nil, List·Memᴰ as Mem, List·Memᴰ·head as here, List·Memᴰ·tail as there}
-use lib.ListN.{length, take, drop, getD, length-append, length-drop}
+use mathlib.Core.List.{List, [], _∷_, map, List·Memᴰ as Mem, List·Memᴰ·head as here, List·Memᴰ·tail as there}
+use lib.ListN.{length, take, drop, getD, length-drop}
 use lib.Dec.{eqb, leb, ltb}
 use borrow.Author.Tests.{leb-true, ltb-true, eqb-true, eqb-false, not-true}
 use lib.Seq.{length-take-le}
 use Rattle.laws.specs.Tests.{and-left, and-right}
 use Rattle.scheme.specs.Cells.{Cell}
-use Rattle.laws.specs.CellLaws.{cell-path}
-use Rattle.scheme.specs.Bag.{load, Loaded}
+use Rattle.scheme.specs.Bag.{load, header, hashes, Bits, bits, rawCell, rawCells, refsOk, links, rootsOk, checksum, read, Got, Counts, Past, rootList, index, bag, Bag}
 use Rattle.laws.specs.Meaning.{Linked}
 use Rattle.scheme.specs.Bytes.{unbe, chunk, field, fields}
 use Rattle.scheme.specs.Bits.{zeros, lastOf, unmark}
-use Rattle.scheme.specs.Res.{Res, bad, ok, then, check}
-use Rattle.scheme.specs.Bag.{Header, header, hashes, Bits, bits, rawCell, rawCells, refsOk, links, rootsOk, checksum, read, Got}
-use Rattle.scheme.specs.Bag.{Counts, Past, numbers, rootList, index, bag, Bag}
-use Rattle.scheme.specs.Res.{refusal}
+use Rattle.scheme.specs.Res.{Res, bad, ok, then, check, refusal}
 use Rattle.scheme.specs.declared.Refusal.{Refusal}
 use Rattle.laws.specs.CellRound.{Fit, allBelow, allBelow-true, last-mem}
 

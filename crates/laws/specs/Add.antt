@@ -1,31 +1,23 @@
 -- Adding a cell: what was added is fit to be stored, and its references are held.
 -- Assumes nothing.
-use mathlib.Core.Path.{_≡_, refl, sym, ap, _∙_, subst}
-use mathlib.Core.Logic.{_⊎_, inl, inr, _≢_}
-use Prim.Native.Nat.{ℕ, zero, suc, _+_, _-_, _*_, _/_, _%_, _^_, _≤_, _<_}
-use native.Mathlib.Nat.{not-suc-le-zero, mul-mod-left, div-mul-le-self, zero-mod}
+use mathlib.Core.Path.{_≡_, refl, sym, _∙_, subst}
+use Prim.Native.Nat.{ℕ, zero, suc, _+_, _-_, _/_, _%_, _^_, _≤_, _<_}
+use native.Mathlib.Nat.{mul-mod-left, div-mul-le-self, zero-mod}
 use native.Mathlib.Omega.{arith}
-use mathlib.Core.Bool.{Bool, true, false, cond}
-use mathlib.Core.List.{List, [], _∷_, _++_, List·Memᴰ as Mem, List·Memᴰ·head as here, List·Memᴰ·tail as there}
+use mathlib.Core.Bool.{Bool, true, false}
+use mathlib.Core.List.{List, [], _∷_, List·Memᴰ as Mem, List·Memᴰ·head as here, List·Memᴰ·tail as there}
 use lib.ListN.{length, take, length-take}
 use lib.Seq.{length-take-le}
-use lib.Dec.{eqb, leb, ltb}
-use borrow.Author.Tests.{leb-true, ltb-true, eqb-true, eqb-false}
+use lib.Dec.{leb, ltb}
+use borrow.Author.Tests.{leb-true, ltb-true}
 use Rattle.scheme.specs.Cells.{Cell, find, insert}
-use Rattle.scheme.specs.Bits.{mask, cropped, bitOf}
-use Rattle.scheme.specs.Res.{refusal}
+use Rattle.scheme.specs.Bits.{mask, cropped, bitOf, lastOf}
+use Rattle.scheme.specs.Res.{refusal, ok, check}
 use Rattle.scheme.specs.Builder.{Builder, cellIn}
 use Rattle.scheme.specs.Add.{refsHeld, Added, add}
 use Rattle.laws.specs.Unique.{Below}
-use Rattle.scheme.specs.Bits.{lastOf}
-use Rattle.scheme.specs.Res.{Res, bad, ok, then, check}
-use Rattle.laws.specs.CellRound.{Fit}
+use Rattle.laws.specs.CellRound.{Fit, length-mask}
 use Rattle.laws.specs.Accept.{Small, then-use, check-inv, mem-take}
-
-length-mask : (k : ℕ) (l : List ℕ) → length (mask k l) ≡ length l
-length-mask k [] = refl
-length-mask k (x ∷ []) = refl
-length-mask k (x ∷ y ∷ ys) = ap suc (length-mask k (y ∷ ys))
 
 small-mask : (k : ℕ) (l : List ℕ) → Small l → Small (mask k l)
 small-mask k [] S z m = S z m
@@ -40,7 +32,7 @@ last-mask k (x ∷ []) = mul-mod-left (x / 2 ^ k) (2 ^ k)
 last-mask k (x ∷ y ∷ []) = mul-mod-left (y / 2 ^ k) (2 ^ k)
 last-mask k (x ∷ y ∷ z ∷ zs) = last-mask k (y ∷ z ∷ zs)
 
-flag-le : (x : Bool) → bitOf x ≤ 1
+pub flag-le : (x : Bool) → bitOf x ≤ 1
 flag-le true = omega arith
 flag-le false = omega arith
 

@@ -2,7 +2,7 @@
 use Prim.Native.Nat.{ℕ, zero, suc, _+_, _*_, _/_, _%_, _-_, _^_, _<_, _≤_}
 use mathlib.Core.Path.{_≡_, refl, sym, ap, subst, _∙_}
 use mathlib.Core.List.{List, [], _∷_, _++_}
-use mathlib.Core.Bool.{Bool, true, false}
+use mathlib.Core.Bool.{true}
 use native.Mathlib.Nat.{zero-mod, mul-mod-left, not-suc-le-zero, le-of-suc-le-suc}
 use native.Mathlib.Omega.{arith}
 use lib.ListN.{length, getD, take, set, length-take, length-set}
@@ -10,13 +10,15 @@ use lib.Seq.{take-suc, take-set-le, take-suc-set, getD-take, getD-set-same, leng
 use lib.Dec.{leb, ltb}
 use borrow.Author.Tests.{leb-true, ltb-true}
 use Rattle.scheme.specs.Res.{Res, bad, ok, check, refusal}
-use Rattle.scheme.specs.Bits.{bitOf, bytesFor, mask, cropped}
+use Rattle.scheme.specs.Bits.{bytesFor, mask, cropped}
 use Rattle.scheme.specs.Cells.{Cell, insert}
 use Rattle.scheme.specs.Builder.{Builder, cellIn}
 use Rattle.scheme.specs.Memory.{capacity, cellsOf, sound, held, layTable, layBytes}
 use Rattle.scheme.specs.Add.{Added, refsHeld, add}
 use Rattle.scheme.specs.Calls.{StoreOut, addOut, adding}
 use Rattle.laws.specs.Accept.{then-use, check-inv}
+use Rattle.laws.specs.Add.{flag-le}
+use Rattle.laws.specs.Kept.{addedStore}
 use Rattle.laws.specs.Wf.{WfCell, Wf}
 use Rattle.laws.specs.Records.{unusedIn, sound-is, cells-length}
 use Rattle.laws.specs.RoundLaws.{cells-back}
@@ -84,14 +86,10 @@ module _ (b : List ℕ) (len : ℕ) (long : length b ≡ 128) (few : len ≤ 102
 
 -- ---- the cell that a builder makes
 
-bit-small : (x : Bool) → bitOf x ≤ 1
-bit-small true = omega arith
-bit-small false = omega arith
-
 pub wf-in : (n : ℕ) (b : Builder) → length (b .bytes) ≡ 128 → b .len ≤ 1023 → b .count ≤ 4 → ((k : ℕ) → k < length (take (b .count) (b .refs)) → getD (take (b .count) (b .refs)) k 0 < n) → WfCell n (cellIn b)
 wf-in n b long few refs below =
     record {
-      flag = bit-small (b .exotic);
+      flag = flag-le (b .exotic);
       bits = few;
       count = omega (arith, length-take (b .count) (b .refs));
       below = below;
@@ -132,11 +130,6 @@ pub record Holds {A : Type 0} (s : List Cell) (o : StoreOut A) : Type 0 where
   pub is-sound : sound (o .count) (o .table) (o .bytes) ≡ true
   pub cells : cellsOf (o .count) (o .table) (o .bytes) ≡ s
 
--- the store after an answer
-abbrev pub storeAfter : List Cell → Res Added → List Cell
-storeAfter s (bad r) = s
-storeAfter s (ok a) = a .store
-
 module _ (n : ℕ) (t d : List ℕ) (b : Builder) (long : length (b .bytes) ≡ 128) (e : sound n t d ≡ true) where
   abbrev s : List Cell
   s = cellsOf n t d
@@ -157,10 +150,10 @@ module _ (n : ℕ) (t d : List ℕ) (b : Builder) (long : length (b .bytes) ≡ 
       (record { is-sound = insert-sound n t d (cellIn b) e w fits; cells = insert-cells n t d (cellIn b) e w fits })
 
   -- adding keeps a store sound, and its cells are those of the definition on lists
-  pub adding-holds : Holds (storeAfter (cellsOf n t d) (add (capacity t) (cellsOf n t d) b)) (adding n t d b)
+  pub adding-holds : Holds (addedStore (cellsOf n t d) (add (capacity t) (cellsOf n t d) b)) (adding n t d b)
   unfolding adding held
   adding-holds = rw e (go (add (capacity t) (cellsOf n t d) b) refl)
     where
-      go : (x : Res Added) → add (capacity t) (cellsOf n t d) b ≡ x → Holds (storeAfter (cellsOf n t d) x) (addOut n t d x)
+      go : (x : Res Added) → add (capacity t) (cellsOf n t d) b ≡ x → Holds (addedStore (cellsOf n t d) x) (addOut n t d x)
       go (bad r) q = record { is-sound = e; cells = refl }
       go (ok a) q = added-holds a q

@@ -1,34 +1,26 @@
 -- A written bag reads back: header, index, cells, checksum, links, and the cells that it names.
 -- Assumes nothing.
-use mathlib.Core.Path.{_≡_, refl, sym, ap, _∙_, subst}
-use mathlib.Core.Logic.{_⊎_, inl, inr, _≢_}
-use Prim.Native.Nat.{ℕ, zero, suc, _+_, _-_, _*_, _/_, _%_, _^_, _≤_, _<_}
-use native.Mathlib.Nat.{not-suc-le-zero, zero-add, mul-le-mul}
+use mathlib.Core.Path.{_≡_, refl, sym, ap, _∙_}
+use Prim.Native.Nat.{ℕ, suc, _+_, _-_, _*_, _/_, _%_, _^_, _≤_, _<_}
+use native.Mathlib.Nat.{mul-le-mul}
 use native.Mathlib.Omega.{arith}
-use mathlib.Core.Bool.{Bool, true, false, cond, not, _||_, _&&_}
+use mathlib.Core.Bool.{Bool, true, false, cond, not, _||_}
 use mathlib.Core.List.{List, [], _∷_, _++_, map, append-assoc, append-nil, List·Memᴰ as Mem, List·Memᴰ·head as here, List·Memᴰ·tail as there}
-use lib.ListN.{length, take, drop, getD, length-append, length-drop, length-map}
+use lib.ListN.{length, take, getD, length-append, length-drop, length-map}
 use lib.Seq.{take-append-seam}
-use lib.Dec.{eqb, leb, ltb}
-use borrow.Author.Tests.{le-leb, lt-ltb, ne-eqb, eqb-true, eqb-false, eq-eqb}
+use lib.Dec.{eqb, leb}
+use borrow.Author.Tests.{le-leb, lt-ltb, eq-eqb}
 use Rattle.scheme.specs.Cells.{Cell}
-use Rattle.laws.specs.CellLaws.{cell-path}
-use Rattle.scheme.specs.Bag.{load, Loaded}
+use Rattle.scheme.specs.Bag.{load, header, rawCells, refsOk, links, checksum, read, Got, numbers, rootList, index, bag}
 use Rattle.laws.specs.Meaning.{Linked}
-use Rattle.scheme.specs.Bytes.{be, le, unle, width, chunk, field, fields}
-use Rattle.scheme.specs.Res.{Res, bad, ok, then, check}
-use Rattle.laws.specs.Fields.{At, at-start, at-move, at-same, at-next, at-chunk, at-end, field-be, field-byte, fields-any, length-be, length-le, unle-le, width-holds, width-le, width-most}
-use Rattle.scheme.specs.Bag.{Header, header, hashes, rawCell, rawCells, refsOk, links, rootsOk, checksum, read, Got}
-use Rattle.scheme.specs.Bag.{Past, Counts, numbers, rootList, index, bag, Bag}
+use Rattle.scheme.specs.Bytes.{be, le, unle, width, field, fields}
+use Rattle.scheme.specs.Res.{ok}
+use Rattle.laws.specs.Fields.{At, at-start, at-move, at-same, at-next, at-chunk, at-end, field-be, field-byte, fields-any, length-be, unle-le, width-holds, width-le, width-most}
 use Rattle.scheme.specs.Layout.{Layout, layout, tagOk, genericTag}
 use Rattle.scheme.specs.Bits.{bitOf}
 use Rattle.scheme.specs.Crc.{crcOf}
-use Rattle.scheme.specs.Write.{allBe, cellBytes, allBytes, body, bagBytes}
-use Rattle.scheme.specs.Write.{Leveled, entries, entry}
-use Rattle.laws.specs.CellRound.{Fit, cell-back, length-cell, length-refs, bit-mod}
-
-cuts-path : (a b : Past (List Cell)) → a .it ≡ b .it → a .next ≡ b .next → a ≡ b
-cuts-path a b p q = λ i. record { it = p i; next = q i }
+use Rattle.scheme.specs.Write.{allBe, cellBytes, allBytes, body, bagBytes, Leveled, entries}
+use Rattle.laws.specs.CellRound.{Fit, past-path, cell-back, length-cell, length-refs}
 
 -- cells without their levels
 abbrev pub plain : List Leveled → List Cell
@@ -40,12 +32,12 @@ Written v = Fit (v .cell) × (v .level ≤ 7)
 
 pub cells-back : {b : List ℕ} (size : ℕ) {p : ℕ} (vs : List Leveled) (l : List ℕ) → ((v : Leveled) → Mem v vs → Written v) → ((v : Leveled) → Mem v vs → (r : ℕ) → Mem r (v .cell .refs) → r < 256 ^ size)
     → At b p (allBytes size vs ++ l) → rawCells b size (length vs) p ≡ ok (record { it = plain vs; next = p + length (allBytes size vs) })
-cells-back size {p} [] l F R A = ap ok (cuts-path _ _ refl (omega arith))
+cells-back size {p} [] l F R A = ap ok (past-path _ _ refl (omega arith))
 cells-back size {p} (v ∷ vs) l F R A =
     let A₁ = at-same (cellBytes size v ++ (allBytes size vs ++ l)) A (append-assoc (cellBytes size v) (allBytes size vs) l) in
     let ih = cells-back size vs l (λ d m. F d (there m)) (λ d m. R d (there m)) (at-next (cellBytes size v) (allBytes size vs ++ l) (length (cellBytes size v)) A₁ refl) in
     let next : p + length (cellBytes size v) + length (allBytes size vs) ≡ p + length (allBytes size (v ∷ vs)) = omega (arith, length-append (cellBytes size v) (allBytes size vs)) in
-    rw (cell-back size v (allBytes size vs ++ l) ((F v (here refl)) .0) ((F v (here refl)) .1) (R v (here refl)) A₁, ih) (ap ok (cuts-path _ _ refl next))
+    rw (cell-back size v (allBytes size vs ++ l) ((F v (here refl)) .0) ((F v (here refl)) .1) (R v (here refl)) A₁, ih) (ap ok (past-path _ _ refl next))
 
 pub length-all : (size : ℕ) (vs : List Leveled) → size ≤ 4 → ((v : Leveled) → Mem v vs → Written v) → length (allBytes size vs) ≤ 146 * length vs
 length-all size [] h F = omega arith
@@ -57,7 +49,7 @@ length-entries : (size p : ℕ) (vs : List Leveled) → length (entries size p v
 length-entries size p [] = refl
 length-entries size p (v ∷ vs) = ap suc (length-entries size (p + length (cellBytes size v)) vs)
 
-refs-ok : (i n : ℕ) (rs : List ℕ) → ((r : ℕ) → Mem r rs → (i < r) × (r < n)) → refsOk i n rs ≡ ok tt
+pub refs-ok : (i n : ℕ) (rs : List ℕ) → ((r : ℕ) → Mem r rs → (i < r) × (r < n)) → refsOk i n rs ≡ ok tt
 refs-ok i n [] h = refl
 refs-ok i n (r ∷ rs) h = rw (lt-ltb i r ((h r (here refl)) .0), lt-ltb r n ((h r (here refl)) .1)) (refs-ok i n rs (λ x m. h x (there m)))
 

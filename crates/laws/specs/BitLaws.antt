@@ -3,7 +3,7 @@
 use mathlib.Core.Path.{_≡_, refl, sym, ap, ap₂, _∙_}
 use mathlib.Core.Logic.{_↔_}
 use mathlib.Core.Bool.{Bool, true, false, _&&_, not}
-use mathlib.Core.List.{List, [], _∷_, _++_, append-assoc, append-nil, List·Memᴰ as Mem, List·Memᴰ·head as here, List·Memᴰ·tail as there}
+use mathlib.Core.List.{List, [], _∷_, _++_, append-assoc, append-nil}
 use Prim.Native.Nat.{ℕ, zero, suc, _+_, _-_, _*_, _/_, _%_, _^_, _<_, _≤_}
 use native.Mathlib.Nat.{pow-suc, zero-add, suc-add, mod-lt, zero-lt-suc, not-suc-le-zero, le-of-suc-le-suc, sub-zero, zero-sub, suc-sub-suc, mul-mod-left}
 use native.Mathlib.Omega.{arith}
@@ -11,8 +11,7 @@ use lib.Bits.{block-half, block-odd, bitAnd, bitOr}
 use lib.Pow.{pow-pos, split}
 use lib.Dec.{eqb, leb, ltb, lit<, lit≤}
 use lib.ListN.{length, getD, take, drop, set, replicate, take-append-drop, length-append, length-drop, length-replicate, length-set, getD-replicate, List·getD-append}
-use lib.Seq.{set-append-left, getD-append-add, getD-drop, take-suc, length-take-le, take-length, take-at, drop-at}
-use lib.Seq.{drop-drop, drop-set-lt, drop-cons, take-add, take-append-le, take-all, getD-at}
+use lib.Seq.{set-append-left, getD-append-add, getD-drop, take-suc, length-take-le, take-length, take-at, drop-at, drop-drop, drop-set-lt, drop-cons, take-add, take-append-le, take-all, getD-at}
 use native.Mathlib.Numerals.{add-one}
 use borrow.Author.Tests.{eqb-true, eqb-false, leb-true, ltb-true}
 use Rattle.scheme.specs.Bits.{bitOf, bytesFor, lowBits, bitsOf, firstBits, number, pack, mask, cropped}
@@ -25,7 +24,7 @@ use Rattle.scheme.specs.Builder.{Builder, newBuilder, putBits, bitsFit, withBit
 use Rattle.laws.specs.Puts.{puts, puts-one, puts-append, puts-parts}
 use Rattle.laws.specs.Tests.{eqbs-true, and-left, and-right}
 use Rattle.laws.specs.CellLaws.{cell-path}
-use Rattle.laws.specs.CellRound.{allBelow, allBelow-true}
+use Rattle.laws.specs.CellRound.{allBelow, allBelow-true, length-mask}
 use Rattle.laws.specs.Accept.{then-use, check-inv}
 
 -- every number of a list is a byte; is a bit
@@ -488,11 +487,6 @@ module _ (len : ℕ) (bs : List ℕ) (h : len ≤ 8 * length bs) (b : AllBytes b
           ∙ sym (append-assoc (bitsOf (take (len / 8) bs)) (take (len % 8) (lowBits 8 left)) (replicate (8 - len % 8) 0))
           ∙ ap₂ (λ (l : List ℕ) (k : ℕ). l ++ replicate k 0) (sym (first-part d)) z
 
-length-mask : (k : ℕ) (l : List ℕ) → length (mask k l) ≡ length l
-length-mask k [] = refl
-length-mask k (x ∷ []) = refl
-length-mask k (x ∷ y ∷ ys) = ap suc (length-mask k (y ∷ ys))
-
 mask-bytes : (k : ℕ) (l : List ℕ) → AllBytes l → AllBytes (mask k l)
 mask-bytes k [] b i = lit< tt
 mask-bytes k (x ∷ []) b zero = omega (arith, split x k, b zero)
@@ -581,13 +575,3 @@ cell-in-tidy b h a = cropped-tidy (b .len) (b .bytes) h a
 
 pub cell-in-bits : (b : Builder) → b .len ≤ 8 * length (b .bytes) → AllBytes (b .bytes) → firstBits ((cellIn b) .len) ((cellIn b) .bytes) ≡ firstBits (b .len) (b .bytes)
 cell-in-bits b h a = crop-first (b .len) (b .bytes) h a
-
--- bytes by place are bytes by membership
-pub small-bytes : (bs : List ℕ) → ((x : ℕ) → Mem x bs → x < 256) → AllBytes bs
-small-bytes [] h i = lit< tt
-small-bytes (b ∷ bs) h zero = h b (here refl)
-small-bytes (b ∷ bs) h (suc i) = small-bytes bs (λ x m. h x (there m)) i
-
-pub bytes-small : (bs : List ℕ) → AllBytes bs → (x : ℕ) → Mem x bs → x < 256
-bytes-small (b ∷ bs) h x (here e) = rw e (h zero)
-bytes-small (b ∷ bs) h x (there m) = bytes-small bs (λ j. h (suc j)) x m

@@ -2,15 +2,9 @@
 -- A store is the list of its cells, and a cell's number is its place. `unfolded k s n` is the structure of cell n of s, to k levels.
 -- In a store of n cells whose references go to lower numbers (or in a bag of n cells whose references go to later places) n levels are all.
 -- Assumes nothing.
-use mathlib.Core.Path.{_≡_, refl, sym, ap, _∙_}
-use mathlib.Core.Logic.{_⊎_, inl, inr}
-use Prim.Native.Nat.{ℕ, zero, suc, _+_, _≤_, _<_}
-use native.Mathlib.Nat.{le-of-suc-le-suc}
-use native.Mathlib.Omega.{arith}
-use mathlib.Core.Bool.{Bool, true, false, _&&_, cond}
-use mathlib.Core.List.{List, [], _∷_, _++_, List·Memᴰ as Mem}
-use lib.ListN.{length, getD}
-use lib.Dec.{eqb, ltb}
+use mathlib.Core.Path.{_≡_, refl}
+use mathlib.Core.Bool.{true, _&&_}
+use lib.Dec.{eqb}
 use borrow.Author.Tests.{eqb-true, eq-eqb}
 use Rattle.scheme.specs.Cells.{Cell, same, eqbs}
 use Rattle.laws.specs.Tests.{eqbs-true, eqbs-refl, and-left, and-right, and-both}

@@ -1,24 +1,23 @@
 -- A written cell reads back as the cell.
 -- Assumes nothing.
-use mathlib.Core.Path.{_≡_, refl, sym, ap, _∙_, subst}
-use mathlib.Core.Logic.{_⊎_, inl, inr, _≢_}
+use mathlib.Core.Path.{_≡_, refl, sym, ap, _∙_}
+use mathlib.Core.Logic.{_≢_}
 use Prim.Native.Nat.{ℕ, zero, suc, _+_, _-_, _*_, _/_, _%_, _^_, _≤_, _<_}
-use native.Mathlib.Nat.{not-suc-le-zero, zero-add}
+use native.Mathlib.Nat.{not-suc-le-zero}
 use native.Mathlib.Omega.{arith}
 use mathlib.Core.Bool.{Bool, true, false, cond, not, _||_, _&&_}
 use mathlib.Core.List.{List, [], _∷_, _++_, append-assoc, List·Memᴰ as Mem, List·Memᴰ·head as here, List·Memᴰ·tail as there}
-use lib.ListN.{length, take, drop, length-append, length-drop}
-use lib.Dec.{eqb, leb, ltb}
-use borrow.Author.Tests.{le-leb, ne-eqb, eqb-true, eqb-false, eq-eqb, ltb-true, not-true}
-use Rattle.laws.specs.Tests.{bool-cases, and-left, and-right}
+use lib.ListN.{length, length-append}
+use lib.Dec.{eqb, leb}
+use borrow.Author.Tests.{le-leb, ne-eqb, eqb-true, eqb-false, eq-eqb, not-true}
+use Rattle.laws.specs.Tests.{and-left, and-right}
 use Rattle.scheme.specs.Cells.{Cell}
 use Rattle.laws.specs.CellLaws.{cell-path}
-use Rattle.scheme.specs.Bytes.{be, chunk, field, fields}
-use Rattle.scheme.specs.Bits.{zeros, lastOf, mark, unmark}
-use Rattle.scheme.specs.Res.{Res, bad, ok, then, check}
+use Rattle.scheme.specs.Bytes.{be, fields}
+use Rattle.scheme.specs.Bits.{zeros, lastOf, mark, unmark, mask}
+use Rattle.scheme.specs.Res.{ok}
 use Rattle.laws.specs.Fields.{At, at-move, at-same, at-next, at-chunk, field-be, field-byte, length-be}
-use Rattle.scheme.specs.Bag.{hashes, bits, Bits, rawCell}
-use Rattle.scheme.specs.Bag.{Past}
+use Rattle.scheme.specs.Bag.{hashes, bits, Bits, rawCell, Past}
 use Rattle.scheme.specs.Write.{Leveled, refsDescriptor, bitsDescriptor, padded, allBe, cellBytes}
 
 -- what a stored cell keeps to
@@ -56,7 +55,7 @@ pad-fact x j hx hj p q =
     let u : (eqb (zeros 8 (x + 2 ^ (7 - j))) (7 - j) && not (eqb (x + 2 ^ (7 - j)) 0)) ≡ true = rw (p, q) at t in
     (eqb-true _ _ (and-left (eqb (zeros 8 (x + 2 ^ (7 - j))) (7 - j)) _ u), not-true (eqb (x + 2 ^ (7 - j)) 0) (and-right (eqb (zeros 8 (x + 2 ^ (7 - j))) (7 - j)) _ u))
 
-last-mark : (m : ℕ) (l : List ℕ) → 0 < length l → lastOf (mark m l) ≡ lastOf l + m
+pub last-mark : (m : ℕ) (l : List ℕ) → 0 < length l → lastOf (mark m l) ≡ lastOf l + m
 last-mark m [] h = absurd (not-suc-le-zero h)
 last-mark m (x ∷ []) h = refl
 last-mark m (x ∷ y ∷ []) h = refl
@@ -66,6 +65,11 @@ pub length-mark : (m : ℕ) (l : List ℕ) → length (mark m l) ≡ length l
 length-mark m [] = refl
 length-mark m (x ∷ []) = refl
 length-mark m (x ∷ y ∷ ys) = ap suc (length-mark m (y ∷ ys))
+
+pub length-mask : (k : ℕ) (l : List ℕ) → length (mask k l) ≡ length l
+length-mask k [] = refl
+length-mask k (x ∷ []) = refl
+length-mask k (x ∷ y ∷ ys) = ap suc (length-mask k (y ∷ ys))
 
 unmark-mark : (t : ℕ) (l : List ℕ) → eqb t 7 ≡ false → unmark t (mark (2 ^ t) l) ≡ l
 unmark-mark t [] e = refl
@@ -101,7 +105,7 @@ module _ (c : Cell) (F : Fit c) where
           rw (odd, last-mark (2 ^ (7 - c .len % 8)) (c .bytes) some, fact .1, fact .0, unmark-mark (7 - c .len % 8) (c .bytes) seven, length-mark (2 ^ (7 - c .len % 8)) (c .bytes))
           (ap ok (bits-path _ _ (omega (arith, F .many)) refl))
 
-  length-padded : length (padded c) ≡ (c .len + 7) / 8
+  pub length-padded : length (padded c) ≡ (c .len + 7) / 8
   length-padded = go (eqb (c .len % 8) 0)
     where
       go : (b : Bool) → length (cond b (c .bytes) (mark (2 ^ (7 - c .len % 8)) (c .bytes))) ≡ (c .len + 7) / 8
@@ -119,16 +123,11 @@ refs-back size (r ∷ rs) l A h =
     let ih = refs-back size rs l (at-next (be size r) (allBe size rs ++ l) size A₁ (length-be size r)) (λ x m. h x (there m)) in
     rw (field-be size r (allBe size rs ++ l) A₁ (h r (here refl)), ih)
 
-pub bit-mod : (x : ℕ) → x ≤ 1 → x % 2 ≡ x
-bit-mod zero h = refl
-bit-mod (suc zero) h = refl
-bit-mod (suc (suc x)) h = absurd (omega arith)
-
 half-up : (q u : ℕ) → q ≤ u → u ≤ q + 1 → (q + u + 1) / 2 ≡ u
 half-up q u h g = omega arith
 
-cut-path : (a b : Past Cell) → a .it ≡ b .it → a .next ≡ b .next → a ≡ b
-cut-path a b p q = λ i. record { it = p i; next = q i }
+pub past-path : {A : Type 0} (a b : Past A) → a .it ≡ b .it → a .next ≡ b .next → a ≡ b
+past-path a b p q = λ i. record { it = p i; next = q i }
 
 flag-mod : (x v : ℕ) → x ≤ 1 → (x + 4 * v) % 2 ≡ x
 flag-mod zero v h = omega arith
@@ -166,4 +165,4 @@ cell-back {b} size {p} v l F L R A =
     let f₆ = bits-back c F (p + 2 + hashes d1) in
     let f₇ : fields b size (d1 % 8) (p + 2 + hashes d1 + (d2 + 1) / 2) ≡ ok (c .refs) = rw m₁ (refs-back size (c .refs) l A₄ R) in
     let next : p + 2 + hashes d1 + (d2 + 1) / 2 + d1 % 8 * size ≡ p + length (cellBytes size v) = rw m₁ (omega (arith, length-cell size v F)) in
-    rw (f₁, f₂, f₃, f₄, f₅, f₆, f₇) (ap ok (cut-path _ _ (cell-path _ c m₂ refl refl refl) next))
+    rw (f₁, f₂, f₃, f₄, f₅, f₆, f₇) (ap ok (past-path _ _ (cell-path _ c m₂ refl refl refl) next))

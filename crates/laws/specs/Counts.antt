@@ -1,22 +1,20 @@
 -- The writer's order as a program makes it: with the number of parents that each cell waits for, in one list.
 -- A parent that names a child more than once counts once, at the first of these references: else the child would join the queue too late.
 -- Assumes nothing.
-use mathlib.Core.Path.{_≡_, refl, sym, ap, _∙_, subst}
+use mathlib.Core.Path.{_≡_, refl, sym, ap, _∙_}
 use mathlib.Core.Logic.{_⊎_, inl, inr, _≢_}
 use Prim.Native.Nat.{ℕ, zero, suc, _+_, _-_, _≤_, _<_}
-use native.Mathlib.Nat.{not-suc-le-zero}
 use native.Mathlib.Omega.{arith}
 use mathlib.Core.Bool.{Bool, true, false, _&&_, _||_, not, cond}
-use mathlib.Core.List.{List, [], _∷_, _++_, List·Memᴰ as Mem, List·Memᴰ·head as here, List·Memᴰ·tail as there, Memᴰ·append-right}
-use lib.ListN.{length, getD, set, length-set, replicate, length-replicate, getD-replicate}
+use mathlib.Core.List.{List, [], _∷_, _++_, List·Memᴰ as Mem, List·Memᴰ·head as here, List·Memᴰ·tail as there}
+use lib.ListN.{length, getD, set, length-set}
 use lib.Seq.{getD-set-same, getD-set-other}
 use lib.Dec.{eqb}
-use borrow.Author.Tests.{eqb-true, eqb-false, eq-eqb, ne-eqb, not-true}
-use Rattle.laws.specs.Tests.{bool-cases, true-false, memb-true, memb-of, memb-false, mem-dec}
-use Rattle.scheme.specs.Order.{memb}
+use borrow.Author.Tests.{eqb-true, eqb-false, eq-eqb, ne-eqb}
+use Rattle.laws.specs.Tests.{memb-true, memb-of, memb-false, mem-dec}
+use Rattle.scheme.specs.Order.{memb, isChild, reachDown, reached, ready, join, run}
 use Rattle.laws.specs.Distinct.{Nodup}
-use Rattle.scheme.specs.Order.{isChild, reachDown, reached, ready, join, run, order}
-use Rattle.laws.specs.Kahn.{Ready, ready-of, ready-true, grown, grown-keep, grown-from, grown-new, Graph, Inv, start-inv, step-inv}
+use Rattle.laws.specs.Kahn.{Ready, ready-true, grown, grown-keep, grown-from, grown-new, Graph, Inv, step-inv}
 
 memb-not : (x : ℕ) (l : List ℕ) → (Mem x l → ⊥) → memb x l ≡ false
 memb-not x l h = go (memb x l) refl
@@ -234,7 +232,7 @@ length-bump (c ∷ cs) seen counts = length-bump cs (c ∷ seen) (cond (memb c s
     len false = length-set counts c (getD counts c 0 + 1)
 
 -- a number that is not in `seen` gets one more if it is among cs
-bump-at : (cs seen counts : List ℕ) (d : ℕ) → d < length counts → getD (bump seen counts cs) d 0 ≡ getD counts d 0 + cond (memb d seen) 0 (cond (memb d cs) 1 0)
+pub bump-at : (cs seen counts : List ℕ) (d : ℕ) → d < length counts → getD (bump seen counts cs) d 0 ≡ getD counts d 0 + cond (memb d seen) 0 (cond (memb d cs) 1 0)
 bump-at [] seen counts d h = go (memb d seen)
   where
     go : (b : Bool) → getD counts d 0 ≡ getD counts d 0 + cond b 0 0
@@ -316,15 +314,3 @@ module _ (kids : ℕ → List ℕ) where
       low : (x : ℕ) → Mem x (root ∷ []) → root ≤ x
       low x (here e) = omega arith
       low x (there m) = elim m [ ]
-
--- the order as a program makes it, over a list of n zeros
-abbrev pub orderCounts : (ℕ → List ℕ) → ℕ → ℕ → List ℕ
-orderCounts kids n root = runCounts kids n (countDown kids root (bump [] (replicate n 0) (kids root))) (root ∷ [])
-
-pub order-counts : (kids : ℕ → List ℕ) (n root : ℕ) → Graph kids (reached kids root) root → root < n → orderCounts kids n root ≡ order kids n root
-order-counts kids n root G h =
-    let c₀ = bump [] (replicate n 0) (kids root) in
-    let l₀ : length c₀ ≡ n = length-bump (kids root) [] (replicate n 0) ∙ length-replicate n 0 in
-    let start : Counted kids [] (replicate n 0) = λ d g. getD-replicate n d 0 0 (rw (length-replicate {A = ℕ} n 0) at g) in
-    let W = counted-down kids root (root ∷ []) c₀ (omega arith) (counted-bump kids root [] (replicate n 0) start) in
-    run-counts kids (reached kids root) root G (nodup-reached kids root) n [] (root ∷ []) (countDown kids root c₀) (start-inv kids (reached kids root) root G) (W .1) (λ c m. omega (arith, W .0, G .top c m))

@@ -1,20 +1,16 @@
 -- The writer's order lists each cell that the root reaches once, the root first, each reference to a later place.
 -- Assumes nothing.
-use mathlib.Core.Path.{_≡_, refl, sym, ap, _∙_, subst}
+use mathlib.Core.Path.{_≡_, refl, subst}
 use mathlib.Core.Logic.{_⊎_, inl, inr}
 use Prim.Native.Nat.{ℕ, zero, suc, _+_, _≤_, _<_}
-use native.Mathlib.Nat.{not-suc-le-zero}
 use native.Mathlib.Omega.{arith}
 use mathlib.Core.Bool.{Bool, true, false, _&&_, _||_, not, cond}
-use mathlib.Core.List.{List, [], _∷_, _++_, List·Memᴰ as Mem, List·Memᴰ·head as here, List·Memᴰ·tail as there}
-use mathlib.Core.List.{List·Memᴰ·append-cases, List·Memᴰ·eq-of-singleton, List·Memᴰ·not-nil, List·Memᴰ·cases-cons, Memᴰ·append-left, Memᴰ·append-right}
+use mathlib.Core.List.{List, [], _∷_, _++_, List·Memᴰ as Mem, List·Memᴰ·head as here, List·Memᴰ·tail as there, List·Memᴰ·append-cases, List·Memᴰ·eq-of-singleton, List·Memᴰ·not-nil, Memᴰ·append-left, Memᴰ·append-right}
 use lib.ListN.{length, length-append}
-use lib.Dec.{eqb}
 use borrow.Author.Tests.{not-true}
-use Rattle.laws.specs.Tests.{bool-cases, true-false, and-left, and-right, and-both, memb-true, memb-of, memb-false, mem-dec}
-use Rattle.scheme.specs.Order.{memb}
+use Rattle.laws.specs.Tests.{bool-cases, and-left, and-right, and-both, memb-true, memb-of, memb-false, mem-dec}
+use Rattle.scheme.specs.Order.{memb, ready, join, run}
 use Rattle.laws.specs.Distinct.{Nodup, nodup-append, nodup-snoc, nodup-bound}
-use Rattle.scheme.specs.Order.{isChild, reachDown, reached, ready, join, run, order}
 
 -- each cell of R that refers to c is in L
 abbrev pub Ready : (ℕ → List ℕ) → List ℕ → List ℕ → ℕ → Type 0

@@ -1,32 +1,25 @@
 -- What every store keeps to, whatever clears, adds and reads follow one another: its references go down, its cells differ and are fit, and they have room.
 -- Assumes nothing.
-use mathlib.Core.Path.{_≡_, refl, sym, ap, _∙_, subst}
-use mathlib.Core.Logic.{_⊎_, inl, inr, _↔_}
-use Prim.Native.Nat.{ℕ, zero, suc, _+_, _-_, _*_, _^_, _≤_, _<_}
+use mathlib.Core.Path.{_≡_, refl}
+use mathlib.Core.Logic.{_⊎_, inl, inr}
+use Prim.Native.Nat.{ℕ, suc, _+_, _-_, _≤_, _<_}
 use native.Mathlib.Nat.{not-suc-le-zero}
 use native.Mathlib.Omega.{arith}
 use mathlib.Core.List.{List, [], _∷_, _++_, map, List·Memᴰ as Mem, List·Memᴰ·head as here, List·Memᴰ·tail as there}
 use lib.ListN.{length, getD, length-map}
-use lib.Dec.{leb, ltb}
-use borrow.Author.Tests.{ltb-true}
-use Rattle.scheme.specs.Cells.{Cell, at, tree, find, insert}
-use Rattle.laws.specs.Unique.{Sound, Below, sound-nil, sound-insert, find-cases, insert-old, insert-new, place-cases, at-old, at-new, unique}
-use Rattle.scheme.specs.Order.{orderOf}
-use Rattle.laws.specs.Reach.{Listing, listing}
-use Rattle.scheme.specs.Cells.{with}
-use Rattle.scheme.specs.Bag.{link, put, load, Loaded}
-use Rattle.laws.specs.Meaning.{Linked, Stored, stored}
-use Rattle.scheme.specs.Res.{Res, bad, ok, then, check}
-use Rattle.scheme.specs.Bag.{read, Got}
-use Rattle.scheme.specs.Write.{write}
+use lib.Dec.{leb}
+use Rattle.scheme.specs.Cells.{Cell, at, find, insert, with}
+use Rattle.laws.specs.Unique.{Sound, sound-nil, sound-insert, find-cases, insert-old, insert-new, place-cases, at-old, at-new}
+use Rattle.scheme.specs.Bag.{link, load, read, Got}
+use Rattle.laws.specs.Meaning.{sound-load}
+use Rattle.scheme.specs.Res.{Res, bad, ok, check, refusal}
+use Rattle.scheme.specs.Write.{write, serialized}
 use Rattle.laws.specs.CellRound.{Fit}
-use Rattle.laws.specs.Accept.{Small, Accepted, read-inv, then-use, check-inv}
+use Rattle.laws.specs.Accept.{Small, Accepted, read-inv, then-use}
 use Rattle.laws.specs.Add.{Taken, add-inv, Typed}
 use Rattle.scheme.specs.Add.{Added, add}
 use Rattle.scheme.specs.Builder.{Builder}
-use Rattle.scheme.specs.Write.{serialized}
 use mathlib.Core.Bool.{Bool}
-use Rattle.scheme.specs.Res.{refusal}
 
 abbrev pub AllFit : List Cell → Type 0
 AllFit s = (x : ℕ) → x < length s → Fit (at s x)
@@ -90,7 +83,7 @@ module _ (cap : ℕ) where
   kept-add s a K T = rw (T .store-is) (record { sound = sound-insert s (T .cell) (K .sound) (T .below); fit = fit-insert s (T .cell) (K .fit) (T .fit); room = T .free })
 
   kept-read : (s : List Cell) (g : Got) → Kept cap s → Accepted cap s g → Kept cap (g .store)
-  kept-read s g K T = record { sound = rw (T .store-is) ((stored s (K .sound) 0 (T .bag .cells) (T .whole .linked)) .sound); fit = rw (T .store-is) (fit-load s 0 (T .bag .cells) (K .fit) (T .whole .fit)); room = T .free }
+  kept-read s g K T = record { sound = rw (T .store-is) (sound-load s (K .sound) 0 (T .bag .cells) (T .whole .linked)); fit = rw (T .store-is) (fit-load s 0 (T .bag .cells) (K .fit) (T .whole .fit)); room = T .free }
 
   pub kept-after : (s : List Cell) (op : Op) → Kept cap s → TypedOp op → Kept cap (after s op)
   kept-after s clears K t = kept-nil

@@ -409,12 +409,3 @@ cells-front m (suc n) t d h =
     (λ l.
     let q : m ≡ suc n = omega arith in
     rw q (take-all (suc n) (cellsOf n t d ++ (cellAt t d n ∷ [])) (rw (length-append (cellsOf n t d) (cellAt t d n ∷ []), cells-length n t d) (omega arith))))
-
--- a store that is sound again, from what its memory says
-pub sound-bool : (n : ℕ) (t d : List ℕ) → SoundMemory n t d → sound n t d ≡ true
-sound-bool n t d s =
-    let z = s .lengths in
-    subst (λ (m : ℕ). sound m t d ≡ true) (cells-length n t d)
-    (subst (λ (l : List ℕ). sound (length (cellsOf n t d)) t l ≡ true) (lay-bytes n t d s)
-    (subst (λ (l : List ℕ). sound (length (cellsOf n t d)) l (layBytes (length t / 7) (cellsOf n t d)) ≡ true) (lay-table n t d s)
-    (sound-lay (length t / 7) (cellsOf n t d) (wf-cells n t d s) (rw (cells-length n t d) (s .held)) (z .few))))

@@ -1,10 +1,8 @@
 -- What a call on a lent store comes to, by each test in its order: the store, the cell's number, the scratch. Assumes nothing.
-use mathlib.Core.Path.{_≡_, refl}
+use mathlib.Core.Path.{_≡_}
 use mathlib.Core.Bool.{true, false}
 use mathlib.Core.List.{List}
 use Prim.Native.Nat.{ℕ, _*_, _<_, _≤_}
-use lib.ListN.{length}
-use lib.Dec.{ltb, leb}
 use borrow.Author.Tests.{lt-ltb, le-ltb, lt-leb, le-leb}
 use Rattle.scheme.specs.Refusals.{STORE, NOCELL, SCRATCH}
 use Rattle.scheme.specs.Res.{bad, ok, refusal}

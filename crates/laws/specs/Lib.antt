@@ -1,4 +1,5 @@
 pub mod Tests
+pub mod Lists
 pub mod CellLaws
 pub mod Unique
 pub mod Distinct
@@ -18,7 +19,6 @@ pub mod Wf
 pub mod RoundLaws
 pub mod Records
 pub mod Puts
-pub mod Lists
 pub mod Folds
 pub mod Passes
 pub mod Lay

@@ -1,13 +1,12 @@
 -- Bytes written at a place, one after another. Assumes nothing.
-use mathlib.Core.Path.{_≡_, refl, sym, ap, subst, _∙_}
-use mathlib.Core.List.{List, [], _∷_, _++_, append-assoc, append-nil}
-use Prim.Native.Nat.{ℕ, zero, suc, _+_, _-_, _*_, _/_, _%_, _<_, _≤_}
-use native.Mathlib.Nat.{add-zero, zero-add, add-assoc, add-suc, not-suc-le-zero}
+use mathlib.Core.Path.{_≡_, refl, _∙_}
+use mathlib.Core.List.{List, [], _∷_, _++_}
+use Prim.Native.Nat.{ℕ, suc, _+_, _-_, _<_, _≤_}
+use native.Mathlib.Nat.{add-zero, zero-add, add-assoc}
 use native.Mathlib.Numerals.{add-one}
 use native.Mathlib.Omega.{arith}
-use lib.ListN.{length, take, drop, set, length-append, length-set}
-use lib.Seq.{sets, sets-eq, set-comm}
-use Rattle.scheme.specs.Bytes.{be}
+use lib.ListN.{length, take, drop, getD, set, length-set}
+use lib.Seq.{sets, sets-eq, set-comm, drop-cons}
 
 -- vs written from place i on
 unfoldable pub puts : List ℕ → ℕ → List ℕ → List ℕ
@@ -26,6 +25,12 @@ pub puts-length : (l : List ℕ) (i : ℕ) (vs : List ℕ) → length (puts l i 
 unfolding puts
 puts-length l i [] = refl
 puts-length l i (v ∷ vs) = puts-length (set l i v) (i + 1) vs ∙ length-set l i v
+
+-- a turn of a loop that writes src from place `at` on: what is left to write is one less
+pub puts-turn : (src out : List ℕ) (at i : ℕ) (X : List ℕ) → i < length src → puts out (at + i) (drop i src) ≡ X
+    → puts (set out (at + i) (getD src i 0)) (at + (i + 1)) (drop (i + 1) src) ≡ X
+unfolding puts
+puts-turn src out at i X h p = rw (← add-assoc at i 1) (rw (add-one i) (rw (drop-cons src i 0 h) at p))
 
 -- two runs, one behind the other
 pub puts-append : (l : List ℕ) (i : ℕ) (a b : List ℕ) → puts (puts l i a) (i + length a) b ≡ puts l i (a ++ b)

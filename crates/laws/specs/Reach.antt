@@ -1,22 +1,20 @@
 -- The cells that a root reaches, as the computed list has them, and the writer's order over a sound store.
 -- Assumes nothing.
-use mathlib.Core.Path.{_≡_, refl, sym, ap, _∙_, subst}
+use mathlib.Core.Path.{_≡_, refl}
 use mathlib.Core.Logic.{_⊎_, inl, inr}
-use Prim.Native.Nat.{ℕ, zero, suc, _+_, _≤_, _<_}
+use Prim.Native.Nat.{ℕ, zero, suc, _≤_, _<_}
 use native.Mathlib.Nat.{not-suc-le-zero}
 use native.Mathlib.Omega.{arith}
-use mathlib.Core.Bool.{Bool, true, false, _&&_, _||_, not, cond}
-use mathlib.Core.List.{List, [], _∷_, _++_, List·Memᴰ as Mem, List·Memᴰ·head as here, List·Memᴰ·tail as there}
-use mathlib.Core.List.{List·Memᴰ·not-nil, List·Memᴰ·eq-of-singleton}
+use mathlib.Core.Bool.{Bool, true, false, _||_, cond}
+use mathlib.Core.List.{List, [], _∷_, List·Memᴰ as Mem, List·Memᴰ·head as here, List·Memᴰ·tail as there, List·Memᴰ·not-nil, List·Memᴰ·eq-of-singleton}
 use lib.ListN.{length}
 use lib.Dec.{ltb}
 use borrow.Author.Tests.{ltb-true, ltb-false}
 use Rattle.laws.specs.Tests.{bool-cases, true-false, memb-true, memb-of}
-use Rattle.scheme.specs.Order.{memb}
+use Rattle.scheme.specs.Order.{memb, isChild, reachDown, reached, order, kidsOf, orderOf}
 use Rattle.laws.specs.Distinct.{Nodup}
 use Rattle.scheme.specs.Cells.{Cell, at}
-use Rattle.laws.specs.Unique.{Sound, Below}
-use Rattle.scheme.specs.Order.{isChild, reachDown, reached, run, order, kidsOf, orderOf}
+use Rattle.laws.specs.Unique.{Low}
 use Rattle.laws.specs.Kahn.{Graph, Good, Later, kahn}
 
 pub data Reach (kids : ℕ → List ℕ) (root : ℕ) : ℕ → Type 0 where
@@ -95,11 +93,11 @@ pub record Listing (s : List Cell) (root : ℕ) (out : List ℕ) : Type 0 where
   pub complete : (x : ℕ) → Reach (kidsOf s) root x → Mem x out
   pub later : Later (kidsOf s) out
 
-pub reach-held : (s : List Cell) → Sound s → (root : ℕ) → root < length s → {c : ℕ} → Reach (kidsOf s) root c → c < length s
+pub reach-held : (s : List Cell) → Low s → (root : ℕ) → root < length s → {c : ℕ} → Reach (kidsOf s) root c → c < length s
 reach-held s S root h (itself e) = omega arith
-reach-held s S root h (via {p} {c} r k) = let g = reach-held s S root h r in omega (arith, S .low p g c k)
+reach-held s S root h (via {p} {c} r k) = let g = reach-held s S root h r in omega (arith, S p g c k)
 
-pub listing : (s : List Cell) → Sound s → (root : ℕ) → root < length s → Listing s root (orderOf s root)
+pub listing : (s : List Cell) → Low s → (root : ℕ) → root < length s → Listing s root (orderOf s root)
 unfolding orderOf
 listing s S root h = record {
   first = first s h;
@@ -110,7 +108,7 @@ listing s S root h = record {
 }
   where
     low : (p c : ℕ) → Reach (kidsOf s) root p → Mem c (kidsOf s p) → c < p
-    low p c r k = S .low p (reach-held s S root h r) c k
+    low p c r k = S p (reach-held s S root h r) c k
 
     W : Good (kidsOf s) (reached (kidsOf s) root) [] (orderOf s root)
     W = kahn (kidsOf s) (reached (kidsOf s) root) root (graph (kidsOf s) root low) (length s) h

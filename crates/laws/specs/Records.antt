@@ -1,7 +1,7 @@
 -- What the test of a sound store says of each record, and the records of the table one by one. Assumes nothing.
-use mathlib.Core.Path.{_≡_, refl, sym, ap, subst, _∙_}
-use mathlib.Core.Bool.{Bool, true, false, _&&_, cond}
-use mathlib.Core.List.{List, [], _∷_, _++_}
+use mathlib.Core.Path.{_≡_, refl, _∙_}
+use mathlib.Core.Bool.{Bool, true, _&&_}
+use mathlib.Core.List.{List, [], _∷_}
 use mathlib.Core.Logic.{⊎-elim}
 use Prim.Native.Nat.{ℕ, zero, suc, _+_, _-_, _*_, _/_, _%_, _^_, _<_, _≤_}
 use native.Mathlib.Nat.{not-suc-le-zero, le-of-suc-le-suc, eq-or-lt-of-le, add-assoc}
@@ -11,10 +11,8 @@ use lib.ListN.{length, getD, take, drop, length-append, length-take, length-drop
 use lib.Seq.{getD-take, getD-drop, getD-at, drop-cons}
 use lib.Dec.{eqb, leb, ltb}
 use borrow.Author.Tests.{leb-true, eqb-true, ltb-true, lt-ltb}
-use Rattle.scheme.specs.Limits.{maxCells, maxBits, maxRefs, recordLen, dataLen}
-use Rattle.scheme.specs.Bits.{bytesFor}
-use Rattle.scheme.specs.Cells.{Cell, blank, at}
-use Rattle.scheme.specs.Memory.{capacity, cellAt, cellsOf, allBelow, allZero, soundRef, tailZero, soundCell, sized, sound}
+use Rattle.scheme.specs.Cells.{blank, at}
+use Rattle.scheme.specs.Memory.{cellAt, cellsOf, allBelow, allZero, soundRef, tailZero, soundCell, sized, sound}
 use Rattle.laws.specs.Tests.{and-left, and-right}
 use Rattle.laws.specs.Lists.{drop-all}
 

@@ -1,27 +1,24 @@
 -- The cells of the bag that is written from an order, reading such cells into a store, and that the one undoes the other.
 -- Assumes nothing.
-use mathlib.Core.Path.{_≡_, refl, sym, ap, _∙_, subst}
+use mathlib.Core.Path.{_≡_, refl, sym, _∙_}
 use mathlib.Core.Logic.{_⊎_, inl, inr}
-use Prim.Native.Nat.{ℕ, zero, suc, _+_, _-_, _≤_, _<_}
-use native.Mathlib.Nat.{not-suc-le-zero, suc-inj}
+use Prim.Native.Nat.{ℕ, suc, _+_, _-_, _<_}
 use native.Mathlib.Omega.{arith}
 use mathlib.Core.Bool.{Bool, true, false, cond}
-use mathlib.Core.List.{List, [], _∷_, _++_, map, append-assoc, List·Memᴰ as Mem, List·Memᴰ·head as here, List·Memᴰ·tail as there}
-use mathlib.Core.List.{List·Memᴰ·not-nil, List·Memᴰ·eq-of-singleton, List·Memᴰ·append-cases}
+use mathlib.Core.List.{List, [], _∷_, _++_, map, append-assoc, List·Memᴰ as Mem, List·Memᴰ·head as here, List·Memᴰ·tail as there, List·Memᴰ·not-nil}
 use lib.ListN.{length, getD, length-append}
 use lib.Dec.{eqb, ltb}
-use borrow.Author.Tests.{eqb-true, eqb-false, eq-eqb, ne-eqb, ltb-true, ltb-false}
+use borrow.Author.Tests.{eqb-true, eqb-false, ne-eqb, ltb-true, ltb-false}
 use Rattle.scheme.specs.Write.{placeOf, bagCell}
-use Rattle.scheme.specs.Cells.{with}
-use Rattle.scheme.specs.Bag.{Loaded, link, put, load}
-use Rattle.laws.specs.Tests.{bool-cases, true-false}
+use Rattle.scheme.specs.Bag.{link, load}
+use Rattle.laws.specs.Tests.{bool-cases}
 use Rattle.laws.specs.Distinct.{Nodup}
-use Rattle.scheme.specs.Cells.{Cell, at, find, insert}
+use Rattle.scheme.specs.Cells.{Cell, at, find}
 use Rattle.laws.specs.CellLaws.{cell-path}
-use Rattle.laws.specs.Unique.{Sound, find-le, at-find, find-lowest, insert-old}
+use Rattle.laws.specs.Unique.{Sound, at-find, find-lowest, insert-old}
 use Rattle.scheme.specs.Order.{kidsOf, orderOf}
 use Rattle.laws.specs.Kahn.{Later}
-use Rattle.laws.specs.Reach.{Reach, Listing, listing, reach-held}
+use Rattle.laws.specs.Reach.{listing, reach-held}
 
 -- the bag's cells without their levels
 abbrev pub plainCells : List Cell → List ℕ → List Cell
@@ -103,5 +100,5 @@ module _ (s : List Cell) (S : Sound s) where
 -- reading the bag that is written from a held cell gives its number as the first bag cell's, and adds nothing
 pub round-trip : (s : List Cell) → Sound s → (root : ℕ) → root < length s → load s 0 (plainCells s (orderOf s root)) ≡ record { store = s; nums = orderOf s root }
 round-trip s S root h =
-    let W = listing s S root h in
-    load-back s S [] (orderOf s root) (orderOf s root) refl (W .once) (W .later) (λ x m. reach-held s S root h (W .sound x m))
+    let W = listing s (S .low) root h in
+    load-back s S [] (orderOf s root) (orderOf s root) refl (W .once) (W .later) (λ x m. reach-held s (S .low) root h (W .sound x m))

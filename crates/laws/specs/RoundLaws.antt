@@ -1,17 +1,15 @@
 -- The cells that lie in the memory of a list of cells are that list. Assumes nothing.
-use Prim.Native.Nat.{ℕ, zero, suc, _+_, _*_, _/_, _%_, _-_, _^_, _<_, _≤_}
+use Prim.Native.Nat.{ℕ, zero, suc, _+_, _*_, _-_, _<_, _≤_}
 use mathlib.Core.Path.{_≡_, refl, sym, ap, subst, _∙_}
 use mathlib.Core.List.{List, [], _∷_, _++_, append-nil, append-assoc}
-use mathlib.Core.Bool.{Bool, true, false}
-use native.Mathlib.Nat.{add-zero, suc-mul, zero-mul, le-of-suc-le-suc, not-suc-le-zero}
-use native.Mathlib.Numerals.{add-one}
+use native.Mathlib.Nat.{add-zero, zero-mul}
 use native.Mathlib.Omega.{arith}
 use lib.ListN.{length, getD, take, drop, replicate, length-append, length-replicate}
-use lib.Seq.{getD-take, getD-append-add, drop-append-add, drop-append-seam, take-at, take-suc, split-at, take-length, length-take-le}
+use lib.Seq.{getD-take, getD-append-add, drop-append-add, take-at, take-suc, split-at, take-length, length-take-le}
 use Rattle.scheme.specs.Cells.{Cell, blank}
 use Rattle.scheme.specs.Bits.{bytesFor}
 use Rattle.scheme.specs.Memory.{cellAt, cellsOf, rowOf, blockOf, rows, blocks, layTable, layBytes}
-use Rattle.laws.specs.Wf.{WfCell, Wf}
+use Rattle.laws.specs.Wf.{Wf}
 
 rows-append : (p xs ys : List Cell) → rows p (xs ++ ys) ≡ rows p xs ++ rows (p ++ xs) ys
 unfolding rows

@@ -1,18 +1,18 @@
 -- In a store that is built by adding cells, equal numbers are equal structures.
 -- Assumes nothing.
-use mathlib.Core.Path.{_≡_, refl, sym, ap, _∙_, subst}
+use mathlib.Core.Path.{_≡_, refl, sym, _∙_, subst}
 use mathlib.Core.Logic.{_⊎_, inl, inr}
 use Prim.Native.Nat.{ℕ, zero, suc, _+_, _≤_, _<_}
 use native.Mathlib.Nat.{le-of-suc-le-suc, not-suc-le-zero}
 use native.Mathlib.Omega.{arith}
-use mathlib.Core.Bool.{Bool, true, false, _&&_, cond}
+use mathlib.Core.Bool.{Bool, true, false, cond}
 use mathlib.Core.List.{List, [], _∷_, _++_, List·Memᴰ as Mem, List·Memᴰ·head as here, List·Memᴰ·tail as there}
-use lib.ListN.{length, getD, length-append, List·getD-append}
+use lib.ListN.{length, length-append, List·getD-append}
 use lib.Seq.{getD-append-seam}
-use lib.Dec.{eqb, ltb}
-use borrow.Author.Tests.{eqb-true, eq-eqb, ltb-true, ltb-false}
+use lib.Dec.{ltb}
+use borrow.Author.Tests.{ltb-true, ltb-false}
 use Rattle.laws.specs.Tests.{bool-cases, true-false}
-use Rattle.scheme.specs.Cells.{Cell, Tree, Forest, node, none, more, blank, at, forest, unfolded, tree, same, find, insert}
+use Rattle.scheme.specs.Cells.{Cell, Tree, blank, at, forest, unfolded, tree, same, find, insert}
 use Rattle.laws.specs.CellLaws.{cell-path, same-true, same-refl}
 
 pub find-le : (s : List Cell) (c : Cell) → find s c ≤ length s
@@ -67,9 +67,13 @@ find-cases s c = go (bool-cases (ltb (find s c) (length s)))
 abbrev pub Below : ℕ → List ℕ → Type 0
 Below n l = (x : ℕ) → Mem x l → x < n
 
--- references go to lower numbers, and no two places hold the same cell
+-- references go to lower numbers
+abbrev pub Low : List Cell → Type 0
+Low s = (i : ℕ) → i < length s → Below i ((at s i) .refs)
+
+-- and no two places hold the same cell
 pub record Sound (s : List Cell) : Type 0 where
-  pub low : (i : ℕ) → i < length s → Below i ((at s i) .refs)
+  pub low : Low s
   pub distinct : (i j : ℕ) → i < length s → j < length s → at s i ≡ at s j → i ≡ j
 
 pub sound-nil : Sound []
@@ -110,15 +114,6 @@ sound-insert s c S B = go (find-cases s c)
     go : (find s c < length s) ⊎ (find s c ≡ length s) → Sound (insert s c)
     go (inl h) = rw (insert-old s c h) S
     go (inr e) = rw (insert-new s c e) (sound-append s c S e B)
-
--- the stores that clearing and adding make
-pub data Built : List Cell → Type 0 where
-  cleared : Built []
-  added : {s : List Cell} (c : Cell) → Built s → Below (length s) (c .refs) → Built (insert s c)
-
-pub sound-built : {s : List Cell} → Built s → Sound s
-sound-built cleared = sound-nil
-sound-built (added {s} c b B) = sound-insert s c (sound-built b) B
 
 forest-inj : (f : ℕ → Tree) (l m : List ℕ) → ((x y : ℕ) → Mem x l → Mem y m → f x ≡ f y → x ≡ y) → forest f l ≡ forest f m → l ≡ m
 forest-inj f [] [] inj e = refl

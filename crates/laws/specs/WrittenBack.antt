@@ -1,36 +1,31 @@
 -- What is written of a held cell reads back as that cell, into the same store.
 -- Assumes nothing.
-use mathlib.Core.Path.{_≡_, refl, sym, ap, _∙_, subst}
-use mathlib.Core.Logic.{_⊎_, inl, inr}
-use Prim.Native.Nat.{ℕ, zero, suc, _+_, _-_, _*_, _^_, _≤_, _<_}
-use native.Mathlib.Nat.{not-suc-le-zero}
+use mathlib.Core.Path.{_≡_, refl, sym, _∙_}
+use Prim.Native.Nat.{ℕ, suc, _+_, _-_, _*_, _^_, _≤_, _<_}
 use native.Mathlib.Omega.{arith}
 use mathlib.Core.Bool.{Bool, true, false, cond}
 use mathlib.Core.List.{List, [], _∷_, _++_, map, append-assoc, List·Memᴰ as Mem, List·Memᴰ·head as here, List·Memᴰ·tail as there}
 use lib.ListN.{length, getD, length-append, length-map}
 use lib.Dec.{eqb}
 use borrow.Author.Tests.{eqb-false}
+use Rattle.laws.specs.Lists.{mem-map}
 use Rattle.laws.specs.Distinct.{Nodup, nodup-bound}
-use Rattle.scheme.specs.Cells.{Cell, at, tree}
-use Rattle.laws.specs.Unique.{Sound, unique}
+use Rattle.scheme.specs.Cells.{Cell, at}
+use Rattle.laws.specs.Unique.{Sound}
 use Rattle.scheme.specs.Order.{kidsOf, orderOf}
 use Rattle.laws.specs.Kahn.{Later}
-use Rattle.laws.specs.Reach.{Reach, Listing, listing, reach-held}
-use Rattle.scheme.specs.Write.{placeOf, bagCell, bagCells}
-use Rattle.laws.specs.Round.{index-later, round-trip}
-use Rattle.scheme.specs.Bag.{load}
+use Rattle.laws.specs.Reach.{listing, reach-held}
+use Rattle.scheme.specs.Write.{placeOf, bagCell, bagCells, write, leveled}
+use Rattle.laws.specs.Round.{index-later, round-trip, plainCells}
+use Rattle.scheme.specs.Bag.{load, read}
 use Rattle.laws.specs.Meaning.{Linked}
-use Rattle.scheme.specs.Res.{Res, ok}
-use Rattle.scheme.specs.Bag.{read, Got}
-use Rattle.scheme.specs.Write.{write}
+use Rattle.scheme.specs.Res.{ok}
 use Rattle.laws.specs.CellRound.{Fit}
-use Rattle.laws.specs.BagRound.{plain, answer, Fits, bag-back}
-use Rattle.laws.specs.Round.{plainCells}
-use Rattle.scheme.specs.Write.{leveled, Leveled}
+use Rattle.laws.specs.BagRound.{plain, Fits, bag-back}
 use Rattle.scheme.specs.Crc.{crcOf}
-use mathlib.Core.Bool.{Bool}
 
-index-lt : (x : ℕ) (l : List ℕ) → Mem x l → placeOf x l < length l
+-- the place of a member is inside the list
+pub index-lt : (x : ℕ) (l : List ℕ) → Mem x l → placeOf x l < length l
 index-lt x (y ∷ ys) m = go (eqb x y) refl m (index-lt x ys)
   where
     go : (b : Bool) → eqb x y ≡ b → Mem x (y ∷ ys) → (Mem x ys → placeOf x ys < length ys) → cond b 0 (suc (placeOf x ys)) < suc (length ys)
@@ -38,12 +33,9 @@ index-lt x (y ∷ ys) m = go (eqb x y) refl m (index-lt x ys)
     go false e (here q) ih = absurd (eqb-false x y e q)
     go false e (there m) ih = omega (arith, ih m)
 
-mem-map {ℓ κ} : {A : Type ℓ} {B : Type κ} (f : A → B) (l : List A) (y : B) → Mem y (map f l) → (x : A) × Mem x l × (y ≡ f x)
-mem-map f (x ∷ xs) y (here e) = (x, here refl, e)
-mem-map f (x ∷ xs) y (there m) = let r = mem-map f xs y m in (r .0, there (r .1), r .2)
-
 module _ (s : List Cell) where
-  bag-linked : (pre suf out : List ℕ) → out ≡ pre ++ suf → Nodup out → Later (kidsOf s) suf → Linked (length pre) (map (bagCell s out) suf)
+  -- references of the listed cells go to later places
+  pub bag-linked : (pre suf out : List ℕ) → out ≡ pre ++ suf → Nodup out → Later (kidsOf s) suf → Linked (length pre) (map (bagCell s out) suf)
   bag-linked pre [] out e n later = tt
   bag-linked pre (x ∷ suf) out e n later =
       let len : length (pre ++ x ∷ []) ≡ suc (length pre) = omega (arith, length-append pre (x ∷ [])) in
@@ -59,7 +51,7 @@ module _ (s : List Cell) where
           let d = length-map suf (bagCell s out) in
           (omega arith, omega arith)
 
-fit-bag : (s : List Cell) (out : List ℕ) (x : ℕ) → Fit (at s x) → Fit (bagCell s out x)
+pub fit-bag : (s : List Cell) (out : List ℕ) (x : ℕ) → Fit (at s x) → Fit (bagCell s out x)
 fit-bag s out x F = record { flag = F .flag; few = F .few; many = F .many; small = F .small; clean = F .clean; arity = rw (length-map ((at s x) .refs) (λ (r : ℕ). placeOf r out)) (F .arity) }
 
 plain-bag : (s : List Cell) (out l : List ℕ) → plain (map (leveled s out) l) ≡ map (bagCell s out) l
@@ -72,8 +64,8 @@ pub bag-fits : (scratch room cap : ℕ) (s₀ s : List Cell) → Sound s → ((x
     → Fits scratch room cap s₀ (bagCells s (orderOf s root))
 bag-fits scratch room cap s₀ s S F root h hmax hscr hroom free =
     let out = orderOf s root in
-    let W = listing s S root h in
-    let held : (x : ℕ) → Mem x out → x < length s = λ x m. reach-held s S root h (W .sound x m) in
+    let W = listing s (S .low) root h in
+    let held : (x : ℕ) → Mem x out → x < length s = λ x m. reach-held s (S .low) root h (W .sound x m) in
     let n : length (bagCells s out) ≡ length out = length-map out (leveled s out) in
     let most = nodup-bound (length s) out (W .once) held in
     let some : 1 ≤ length out = rw (W .first .1) (omega arith) in
@@ -88,7 +80,7 @@ bag-fits scratch room cap s₀ s S F root h hmax hscr hroom free =
       free = rw q free;
     }
 
-crc-small : (x : List ℕ) → crcOf x < 256 ^ 4
+pub crc-small : (x : List ℕ) → crcOf x < 256 ^ 4
 unfolding crcOf
 crc-small x = omega arith
 
@@ -100,7 +92,7 @@ pub written-reads-back : (whole : Bool) (scratch room cap : ℕ) (idx sum : Bool
 unfolding write
 written-reads-back whole scratch room cap idx sum s S F root h hcap hmax hscr hroom =
     let out = orderOf s root in
-    let W = listing s S root h in
+    let W = listing s (S .low) root h in
     let n : length (plainCells s out) ≡ length out = length-map out (bagCell s out) in
     let z : length s - length s ≡ 0 = omega arith in
     let g : getD out 0 0 ≡ root = rw (W .first .1) in

@@ -1,8 +1,8 @@
 -- The references of the store's cells by number, as the table has them. Assumes nothing.
 use mathlib.Core.Path.{_≡_, refl, sym, ap₂, _∙_}
 use mathlib.Core.Bool.{Bool, true, false, cond}
-use mathlib.Core.List.{List, [], _∷_, List·Memᴰ as Mem, List·Memᴰ·head as here, List·Memᴰ·tail as there, List·Memᴰ·not-nil}
-use Prim.Native.Nat.{ℕ, suc, _+_, _*_, _<_, _≤_}
+use mathlib.Core.List.{List, [], List·Memᴰ as Mem, List·Memᴰ·not-nil}
+use Prim.Native.Nat.{ℕ, _+_, _*_, _<_, _≤_}
 use native.Mathlib.Omega.{arith}
 use lib.ListN.{length, getD, List·getD-eq-default}
 use lib.Dec.{ltb}
@@ -12,18 +12,14 @@ use Rattle.scheme.specs.Memory.{cellsOf}
 use Rattle.scheme.specs.Order.{order, kidsOf, orderOf}
 use Rattle.laws.specs.Records.{refsAt, RecordOk, Linked, refs-length, refs-get, cell-refs, cells-length, cells-at}
 use Rattle.order.specs.Queue.{kidsAt}
-
--- a number of a list stands at a place
-pub mem-place : (c : ℕ) (l : List ℕ) → Mem c l → (j : ℕ) × (j < length l) × (getD l j 0 ≡ c)
-mem-place c (x ∷ l) (here e) = (0, omega arith, sym e)
-mem-place c (x ∷ l) (there m) = let r = mem-place c l m in let h = r .1 in (suc (r .0), omega arith, r .2)
+use Rattle.laws.specs.Lists.{mem-place}
 
 pub refs-below : (t : List ℕ) (i c : ℕ) → RecordOk t i → Mem c (refsAt t i) → c < i
 refs-below t i c ok m =
-    let r = mem-place c (refsAt t i) m in
+    let r = mem-place (refsAt t i) c m in
     let h : r .0 < getD t (i * 7 + 2) 0 = rw (refs-length t i ok) at (r .1) in
     let b = ok .back (r .0) h in
-    let e = sym (refs-get t i (r .0) h) ∙ r .2 in
+    let e = sym (refs-get t i (r .0) h) ∙ sym (r .2) in
     omega arith
 
 -- ---- the references by number

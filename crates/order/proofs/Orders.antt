@@ -1,19 +1,19 @@
 -- The queue in the scratch is the queue of the order, and there is room for it. Assumes nothing.
 use mathlib.Core.Path.{_≡_, refl, sym, _∙_}
-use mathlib.Core.Bool.{Bool, true, false, cond, _&&_, _||_}
+use mathlib.Core.Bool.{Bool, true, false, cond, _&&_}
 use mathlib.Core.List.{List, [], _∷_, _++_, append-nil, append-assoc, List·Memᴰ as Mem, List·Memᴰ·head as here, List·Memᴰ·tail as there, List·Memᴰ·not-nil}
-use mathlib.Core.Logic.{_⊎_, inl, inr, _≢_}
+use mathlib.Core.Logic.{_⊎_, inl, inr}
 use Prim.Native.Nat.{ℕ, zero, suc, _+_, _-_, _*_, _<_, _≤_}
 use native.Mathlib.Omega.{arith}
 use lib.ListN.{length, take, getD, set, length-set, replicate, length-append, length-replicate, getD-replicate, List·getD-eq-default}
-use lib.Seq.{slice, slice-empty, length-slice, length-take-le, getD-take, getD-set-same, getD-set-other, take-set-le}
-use lib.Dec.{eqb, ltb}
-use borrow.Author.Tests.{ltb-true, ltb-false, eqb-true, eqb-false}
+use lib.Seq.{slice, slice-empty, length-slice, length-take-le, getD-take, getD-set-same, take-set-le}
+use lib.Dec.{ltb}
+use borrow.Author.Tests.{ltb-true, ltb-false}
 use Rattle.laws.specs.Distinct.{Nodup}
 use Rattle.scheme.specs.Order.{memb, join, reached, run, order}
 use Rattle.laws.specs.Kahn.{Graph, Inv, Good, room, start-inv, step-inv, kahn}
 use Rattle.laws.specs.Reach.{graph}
-use Rattle.laws.specs.Counts.{settle, runCounts, countDown, bump, parents, run-counts, counted-down, length-bump, nodup-reached}
+use Rattle.laws.specs.Counts.{settle, runCounts, countDown, bump, bump-at, parents, run-counts, counted-down, length-bump, nodup-reached}
 use Rattle.laws.specs.Records.{refsAt, Linked}
 use Rattle.order.specs.Queue.{kidsAt, Small, Joined, Roomy, Listed, Placed, Ordered}
 use Rattle.order.proofs.Kids.{kids-refs, kids-below, order-is}
@@ -160,41 +160,12 @@ small-zeros m d = go (ltb d m) refl
     go true e = rw (getD-replicate {A = ℕ} m d 0 0 (ltb-true d m e)) (omega arith)
     go false e = let h : length (replicate {A = ℕ} m 0) ≤ d = rw (length-replicate {A = ℕ} m 0) (ltb-false d m e) in rw (List·getD-eq-default (replicate m 0) 0 h) (omega arith)
 
--- a reference that is not in `seen` gets one parent more
-bump-more : (cs seen counts : List ℕ) (d : ℕ) → d < length counts → getD (bump seen counts cs) d 0 ≡ getD counts d 0 + cond (memb d seen) 0 (cond (memb d cs) 1 0)
-bump-more [] seen counts d h = go (memb d seen)
-  where
-    go : (b : Bool) → getD counts d 0 ≡ getD counts d 0 + cond b 0 0
-    go true = omega arith
-    go false = omega arith
-bump-more (c ∷ cs) seen counts d h = bump-more cs (c ∷ seen) counts₁ d (omega (arith, len (memb c seen))) ∙ go (eqb d c) refl (memb d seen) refl
-  where
-    counts₁ : List ℕ
-    counts₁ = cond (memb c seen) counts (set counts c (getD counts c 0 + 1))
-
-    len : (b : Bool) → length (cond b counts (set counts c (getD counts c 0 + 1))) ≡ length counts
-    len true = refl
-    len false = length-set counts c (getD counts c 0 + 1)
-
-    same : (b : Bool) → d ≡ c → memb c seen ≡ b → getD (cond b counts (set counts c (getD counts c 0 + 1))) d 0 ≡ getD counts d 0 + cond b 0 1
-    same true e m = omega arith
-    same false e m = rw (e, getD-set-same counts c (getD counts c 0 + 1) 0 (rw e at h))
-
-    other : (b : Bool) → d ≢ c → getD (cond b counts (set counts c (getD counts c 0 + 1))) d 0 ≡ getD counts d 0
-    other true ne = refl
-    other false ne = getD-set-other counts c d (getD counts c 0 + 1) 0 ne
-
-    go : (b : Bool) → eqb d c ≡ b → (a : Bool) → memb d seen ≡ a → getD counts₁ d 0 + cond (b || a) 0 (cond (memb d cs) 1 0) ≡ getD counts d 0 + cond a 0 (cond (b || memb d cs) 1 0)
-    go true e true m = let q = eqb-true d c e in let r : memb c seen ≡ true = rw q at m in rw r (omega arith)
-    go true e false m = let q = eqb-true d c e in let r : memb c seen ≡ false = rw q at m in rw r (omega (arith, same false q r))
-    go false e a m = rw (other (memb c seen) (eqb-false d c e))
-
 -- the references of one parent, counted from zeros
 first-parent : (kids : ℕ → List ℕ) (root m d : ℕ) → d < length (bump [] (replicate m 0) (kids root)) → getD (bump [] (replicate m 0) (kids root)) d 0 ≡ parents kids (root ∷ []) [] d
 first-parent kids root m d h =
     let l : length (replicate {A = ℕ} m 0) ≡ m = length-replicate m 0 in
     let k : d < m = omega (arith, length-bump (kids root) [] (replicate m 0)) in
-    bump-more (kids root) [] (replicate m 0) d (rw l k) ∙ rw (getD-replicate {A = ℕ} m d 0 0 k) (go (memb d (kids root)))
+    bump-at (kids root) [] (replicate m 0) d (rw l k) ∙ rw (getD-replicate {A = ℕ} m d 0 0 k) (go (memb d (kids root)))
   where
     go : (b : Bool) → 0 + cond b 1 0 ≡ cond (b && true) 1 0
     go true = refl

@@ -54,9 +54,6 @@ small-more k s c S d = go (ltb c (length s)) refl (eqb d c) refl
     go true e true q = let p = eqb-true d c q in rw (p, getD-set-same s c (getD s c 0 + 1) 0 (ltb-true c (length s) e)) (omega (arith, S c))
     go true e false q = rw (getD-set-other s c d (getD s c 0 + 1) 0 (eqb-false d c q)) (omega (arith, S d))
 
-pub small-up : (k m : ℕ) (s : List ℕ) → k ≤ m → Small k s → Small m s
-small-up k m s h S d = omega (arith, S d)
-
 pub small-bump : (cs seen : List ℕ) (k : ℕ) (s : List ℕ) → Small k s → Small (k + length cs) (bump seen s cs)
 small-bump [] seen k s S d = omega (arith, S d)
 small-bump (c ∷ cs) seen k s S d = omega (arith, small-bump cs (c ∷ seen) (k + 1) (cond (memb c seen) s (set s c (getD s c 0 + 1))) (go (memb c seen)) d)

@@ -7,8 +7,7 @@ use mathlib.Core.Bool.{Bool, cond}
 use mathlib.Core.List.{List, [], _∷_, List·Memᴰ as Mem}
 use lib.ListN.{length, take, getD, set}
 use lib.Seq.{slice}
-use lib.Dec.{eqb}
-use lib.Dec.{ltb}
+use lib.Dec.{eqb, ltb}
 use Rattle.scheme.specs.Memory.{cellsOf}
 use Rattle.scheme.specs.Order.{orderOf}
 use Rattle.scheme.specs.Write.{placeOf}

@@ -9,15 +9,11 @@ use lib.Seq.{length-take-le, set-append-left}
 use Rattle.laws.specs.Puts.{puts, puts-start}
 use Rattle.scheme.specs.Bits.{mask, cropped}
 use Rattle.raw_cell.specs.Data.{mask-none}
+use Rattle.laws.specs.CellRound.{length-mask}
 
 -- the block of the first len bits of the bytes b from place p on
 abbrev pub blockAt : List ℕ → ℕ → ℕ → List ℕ
 blockAt b p len = cropped len (drop p b) ++ replicate (128 - length (cropped len (drop p b))) 0
-
-length-mask : (k : ℕ) (l : List ℕ) → length (mask k l) ≡ length l
-length-mask k [] = refl
-length-mask k (x ∷ []) = refl
-length-mask k (x ∷ y ∷ ys) = ap suc (length-mask k (y ∷ ys))
 
 mask-set : (k : ℕ) (l : List ℕ) → 0 < length l → set l (length l - 1) (getD l (length l - 1) 0 / 2 ^ k * 2 ^ k) ≡ mask k l
 mask-set k [] h = absurd (not-suc-le-zero h)

@@ -5,19 +5,17 @@ use mathlib.Core.Bool.{Bool, true, false}
 use mathlib.Core.List.{List}
 use native.Mathlib.Omega.{arith}
 use borrow.Author.Tests.{eqb-true}
-use lib.ListN.{take, drop, getD}
+use lib.ListN.{drop, getD}
 use lib.Dec.{eqb, leb}
 use Rattle.scheme.specs.Res.{Res, bad, ok, then, check, refusal}
 use Rattle.scheme.specs.Bits.{cropped}
 use Rattle.scheme.specs.Bytes.{chunk, field, fields}
 use Rattle.scheme.specs.Cells.{Cell}
-use Rattle.scheme.specs.Memory.{blockOf}
 use Rattle.scheme.specs.Bag.{Past, Bits, bits, hashes, rawCell}
 use Rattle.bits.specs.Field.{byteAt, skipFieldsAt, numbersAt}
 use Rattle.bits.specs.Laws.{chunk-cases, skip-whole, skip-cut, skip-fields-end, fields-are}
 use Rattle.raw_cell.specs.Frame.{bitsIn, dataAt, bodyAt, frame}
 use Rattle.raw_cell.specs.Data.{bits-at}
-use Rattle.raw_cell.specs.Block.{blockAt}
 use Rattle.raw_cell.specs.declared.RawCell.{RawCell}
 
 -- the cell that a frame in the bytes b stands for, in a bag whose references take `size` bytes
@@ -28,10 +26,6 @@ cellIn b size f = record {
   bytes = cropped (f .bits) (drop (f .body) b);
   refs = numbersAt b size (f .refs) (f .links);
 }
-
--- the block that its data is copied to is the block of the cell
-pub block-cell : (b : List ℕ) (size : ℕ) (f : RawCell) → blockAt b (f .body) (f .bits) ≡ blockOf (cellIn b size f)
-block-cell b size f = refl
 
 abbrev pub cellPast : List ℕ → ℕ → RawCell → Past Cell
 cellPast b size f = record { it = cellIn b size f; next = f .next }

@@ -1,25 +1,23 @@
 -- The cells that the scratch has places for, placed in a sound store: the start, one cell, and the ends. Assumes nothing.
 use mathlib.Core.Path.{_≡_, refl, sym, ap, _∙_, subst}
-use Prim.Native.Nat.{ℕ, zero, suc, _+_, _-_, _*_, _/_, _≤_, _<_}
-use native.Mathlib.Nat.{zero-add}
+use Prim.Native.Nat.{ℕ, suc, _+_, _-_, _*_, _≤_, _<_}
 use native.Mathlib.Omega.{arith}
 use mathlib.Core.Bool.{true}
 use mathlib.Core.List.{List, [], _∷_, _++_, List·Memᴰ as Mem, List·Memᴰ·head as here, List·Memᴰ·tail as there}
-use lib.ListN.{length, getD, take, drop, set, replicate, length-append, length-replicate, length-take}
-use lib.Seq.{length-take-le, drop-length, getD-take, take-at, take-append-le}
-use Rattle.scheme.specs.Res.{bad, ok, refusal}
+use lib.ListN.{length, getD, take, drop, set, replicate, length-append, length-replicate}
+use lib.Seq.{length-take-le, drop-length, getD-take, take-at}
 use Rattle.scheme.specs.declared.Refusal.{Refusal}
 use Rattle.scheme.specs.Cells.{Cell, at, with}
 use Rattle.scheme.specs.Bits.{bytesFor, cropped}
-use Rattle.scheme.specs.Bag.{Past, rawCell, load, Loaded}
+use Rattle.scheme.specs.Bag.{load}
 use Rattle.scheme.specs.Memory.{capacity, cellsOf, sound, blockOf, blocks, layTable, layBytes}
 use Rattle.laws.specs.CellRound.{Fit}
 use Rattle.laws.specs.Accept.{Small, cell-fit}
-use Rattle.laws.specs.Meaning.{Linked, Extends}
+use Rattle.laws.specs.Meaning.{Extends}
 use Rattle.laws.specs.Puts.{puts, puts-length, puts-start}
 use Rattle.laws.specs.Wf.{Wf}
 use Rattle.laws.specs.RoundLaws.{blocks-length, wf-small}
-use Rattle.laws.specs.Records.{SoundMemory, Sized, sound-is, cells-length}
+use Rattle.laws.specs.Records.{SoundMemory, sound-is, cells-length}
 use Rattle.laws.specs.Lay.{wf-cells, lay-table, lay-bytes, back-table, back-bytes, cells-front}
 use Rattle.bits.specs.Field.{numbersAt}
 use Rattle.bits.specs.Laws.{length-numbers}
@@ -29,12 +27,12 @@ use Rattle.raw_cell.specs.declared.RawCell.{RawCell}
 use Rattle.bag.specs.Places.{IsCell, cellAt, cellsAt}
 use Rattle.bag.specs.Scan.{cell-is, cells-length as cells-many, cells-get}
 use Rattle.bag.specs.Frames.{FrameIs}
-use Rattle.store.specs.Paper.{addedPaper, placing, Places, TakesBack}
+use Rattle.store.specs.Paper.{addedPaper, Places, TakesBack}
 use Rattle.store.specs.Search.{cellOf}
 use Rattle.store.specs.declared.Added.{Added}
 use Rattle.store.specs.declared.Added.the-variants.{Number, Refused}
 use Rattle.reader.specs.Filled.{numbersOf, numbered}
-use Rattle.reader.specs.Load.{Held, load-extends, length-map, map-below}
+use Rattle.reader.specs.Load.{load-extends, length-map, map-below}
 use Rattle.reader.specs.Placing.{Placed, lay-length, held-at, sound-now, cells-now, cap-now, refs-held, next, next-low, full}
 use Rattle.bag.specs.declared.Check.the-variants.{Passed, Refused as NotPlaced}
 use Rattle.reader.specs.Paper.{Ready, Over, PlacesAll}

@@ -6,7 +6,7 @@ use mathlib.Core.Bool.{Bool, true, false, _&&_, cond}
 use native.Mathlib.Nat.{add-zero, add-assoc}
 use native.Mathlib.Numerals.{add-one}
 use native.Mathlib.Omega.{arith}
-use lib.ListN.{length, getD, take, drop, length-take, length-drop}
+use lib.ListN.{length, getD, take, drop}
 use lib.Seq.{take-suc, take-all}
 use lib.Bits.{bitOr, or-zero-l, or-add-and, and-le-r}
 use lib.Dec.{eqb, ltb}
@@ -15,6 +15,7 @@ use Rattle.scheme.specs.Bits.{bytesFor}
 use Rattle.scheme.specs.Memory.{allBelow, allZero, soundRef, tailZero, soundCell, sized, sound}
 use Rattle.laws.specs.Tests.{true-false}
 use Rattle.laws.specs.Records.{unusedIn, all-at}
+use Rattle.laws.specs.Lists.{rest-is}
 
 module _ (p : ℕ → Bool) where
   pub all-more : (n : ℕ) → allBelow n p ≡ true → p n ≡ true → allBelow (n + 1) p ≡ true
@@ -116,14 +117,6 @@ module _ (t d : List ℕ) where
   unfolding sized
   sized-1 h = rw (ne-eqb (length t % 7) 0 h)
 
-  pub sized-2 : length t % 7 ≡ 0 → 4096 < length t / 7 → false ≡ sized t d
-  unfolding sized
-  sized-2 h l = rw (eq-eqb (length t % 7) 0 h, lt-leb (length t / 7) 4096 l)
-
-  pub sized-3 : length t % 7 ≡ 0 → length t / 7 ≤ 4096 → eqb (length d) (length t / 7 * 128) ≡ sized t d
-  unfolding sized
-  sized-3 h l = rw (eq-eqb (length t % 7) 0 h, le-leb (length t / 7) 4096 l)
-
 -- `is_sound`: its ways out, in order
 module _ (n : ℕ) (t d : List ℕ) where
   pub sound-1 : sized t d ≡ false → false ≡ sound n t d
@@ -162,14 +155,5 @@ unused-table (suc (suc (suc (suc (suc (suc (suc zero))))))) h = refl
 unused-table (suc (suc (suc (suc (suc (suc (suc (suc k)))))))) h = absurd (omega arith)
 
 -- a part of a slice, as the code lends it
-pub rest-is : (p : ℕ) (l : List ℕ) → take (length l - p) (drop p l) ≡ drop p l
-rest-is p l = take-all (length l - p) (drop p l) (simp length-drop (omega arith))
-
 pub zero-rest : (p : ℕ) (l : List ℕ) (r : Bool) → r ≡ allZero (take (length l - p) (drop p l)) → r ≡ allZero (drop p l)
 zero-rest p l r e = rw (rest-is p l) at e
-
-pub rest-le : (m p : ℕ) (l : List ℕ) → length l - p ≤ m → length (take (length l - p) (drop p l)) ≤ m
-rest-le m p l h = rw (rest-is p l) (simp length-drop h)
-
-pub part-length : (p n : ℕ) (l : List ℕ) → p + n ≤ length l → length (take (p + n - p) (drop p l)) ≡ n
-part-length p n l h = simp (length-take, length-drop) (omega arith)

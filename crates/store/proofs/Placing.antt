@@ -2,11 +2,8 @@
 use Prim.Native.Nat.{ℕ, _+_, _-_, _*_, _/_, _<_, _≤_}
 use mathlib.Core.Path.{_≡_, sym, ap, _∙_}
 use mathlib.Core.List.{List, [], _∷_, _++_, append-nil}
-use native.Mathlib.Nat.{add-assoc}
-use native.Mathlib.Numerals.{add-one}
 use native.Mathlib.Omega.{arith}
-use lib.ListN.{length, getD, take, drop, set, replicate, length-take, length-drop, drop-of-length-le}
-use lib.Seq.{take-all, drop-cons}
+use lib.ListN.{length, getD, take, drop, replicate, length-take, length-drop, drop-of-length-le}
 use borrow.Author.Tests.{le-leb, lt-leb}
 use Rattle.scheme.specs.Res.{bad, ok, refusal}
 use Rattle.scheme.specs.Bits.{bytesFor}
@@ -19,6 +16,7 @@ use Rattle.laws.specs.Lay.{lay-table, lay-bytes, lay-table-put, lay-bytes-put, 
 use Rattle.store.specs.Search.{cellOf}
 use Rattle.store.specs.Paper.{Places, placed}
 use Rattle.store.specs.declared.Added.the-variants.{Number, Refused}
+use Rattle.laws.specs.Lists.{rest-is}
 
 module _ (n : ℕ) (t d : List ℕ) (c : Cell) (s : SoundMemory n t d) where
   -- a cell that is held
@@ -70,9 +68,6 @@ module _ (n : ℕ) (t d : List ℕ) (c : Cell) (s : SoundMemory n t d) where
 
 -- ---- a part that is cleared to the end, as the code lends it
 
-rest-is : (p : ℕ) (l : List ℕ) → take (length l - p) (drop p l) ≡ drop p l
-rest-is p l = take-all (length l - p) (drop p l) (simp length-drop (omega arith))
-
 rest-empty : (p : ℕ) (l : List ℕ) → drop (length l - p) (drop p l) ≡ []
 rest-empty p l = drop-of-length-le (drop p l) {i = length l - p} (simp length-drop (omega arith))
 
@@ -84,11 +79,6 @@ pub rest-cleared : (p : ℕ) (l ys : List ℕ) → ys ≡ replicate (length (tak
 rest-cleared p l ys e = rw (rest-empty p l, append-nil ys, e, rest-count p l)
 
 -- ---- `put_numbers`, `put_row`
-
-pub puts-turn : (src out : List ℕ) (at i : ℕ) (X : List ℕ) → i < length src → puts out (at + i) (drop i src) ≡ X
-    → puts (set out (at + i) (getD src i 0)) (at + (i + 1)) (drop (i + 1) src) ≡ X
-unfolding puts
-puts-turn src out at i X h p = rw (← add-assoc at i 1) (rw (add-one i) (rw (drop-cons src i 0 h) at p))
 
 pub row-is : (t : List ℕ) (p flag bits : ℕ) (rs x : List ℕ) (i j k l : ℕ) → i ≡ getD rs 0 0 → j ≡ getD rs 1 0 → k ≡ getD rs 2 0 → l ≡ getD rs 3 0
     → x ≡ puts t p (flag ∷ bits ∷ length rs ∷ i ∷ j ∷ k ∷ l ∷ []) → x ≡ puts t p (rowOf [] (cellOf flag bits [] rs))

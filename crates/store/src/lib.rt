@@ -211,7 +211,8 @@ pub fn place(
     requires { ⌜ (flag ≤ 1) × (bits ≤ 1023) × (length (now want) ≡ 128) × (length (now refs) ≤ 4) ⌝ }
     requires { ⌜ now want ≡ blockOf (cellOf flag bits (now want) (now refs)) ⌝ }
     requires { ⌜ ((k : ℕ) → k < length (now refs) → getD (now refs) k 0 < now count) ⌝ }
-    ensures { λ r. ⌜ Places (now (count .entry)) (now (table .entry)) (now (bytes .entry)) (cellOf flag bits (now (want .entry)) (now (refs .entry))) r (now (count .exit)) (now (table .exit)) (now (bytes .exit)) ⌝ }
+    ensures { λ r. ⌜ Places (now (count .entry)) (now (table .entry)) (now (bytes .entry)) (cellOf flag bits (now (want .entry)) (now (refs .entry)))
+        r (now (count .exit)) (now (table .exit)) (now (bytes .exit)) ⌝ }
 {
     let n = *count;
     let number = find_cell(above(refs), n, table, bytes, flag, bits, want, refs);
@@ -310,7 +311,8 @@ fn flag_of(exotic: bool) -> u32
 // Interface between crates: adds a cell to a store that is known to be sound.
 pub fn add_in(count: &mut usize, table: &mut [u32], bytes: &mut [u8], cell: CellBuilder) -> Added
     requires { ⌜ sound (now count) (now table) (now bytes) ≡ true ⌝ }
-    ensures { λ r. ⌜ Adds (now (count .entry)) (now (table .entry)) (now (bytes .entry)) (builderOf cell) r (now (count .exit)) (now (table .exit)) (now (bytes .exit)) ⌝ }
+    ensures { λ r. ⌜ Adds (now (count .entry)) (now (table .entry)) (now (bytes .entry)) (builderOf cell)
+        r (now (count .exit)) (now (table .exit)) (now (bytes .exit)) ⌝ }
 {
     let bits = cell.len;
     if bits > MAX_BITS_LEN {
@@ -343,7 +345,8 @@ pub fn add_in(count: &mut usize, table: &mut [u32], bytes: &mut [u8], cell: Cell
 // Adds a cell, as a builder hands it over: the number of the lowest-numbered cell equal to it in flag, bits and references, or else it is appended.
 // Bits past the length and unused references count as 0. Refuses STORE, BITS, REFS, NOCELL (place: the reference's position), FULL, in this order.
 pub fn add(count: &mut usize, table: &mut [u32], bytes: &mut [u8], cell: CellBuilder) -> Added
-    ensures { λ r. ⌜ Adds (now (count .entry)) (now (table .entry)) (now (bytes .entry)) (builderOf cell) r (now (count .exit)) (now (table .exit)) (now (bytes .exit)) ⌝ }
+    ensures { λ r. ⌜ Adds (now (count .entry)) (now (table .entry)) (now (bytes .entry)) (builderOf cell)
+        r (now (count .exit)) (now (table .exit)) (now (bytes .exit)) ⌝ }
 {
     if !is_sound(*count, table, bytes) {
         return Added::Refused(Refusal {

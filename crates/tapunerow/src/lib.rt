@@ -38,7 +38,8 @@ pub extern "C" fn tapunerow_clear(
     bytes: &mut [u8],
     answer: &mut [usize; 1],
 ) -> u32
-    ensures { λ r. ⌜ WireClears (now (count .entry)) (now (table .entry)) (now (bytes .entry)) r (now (count .exit)) (now (table .exit)) (now (bytes .exit)) (now (answer .exit)) ⌝ }
+    ensures { λ r. ⌜ WireClears (now (count .entry)) (now (table .entry)) (now (bytes .entry))
+        r (now (count .exit)) (now (table .exit)) (now (bytes .exit)) (now (answer .exit)) ⌝ }
 {
     let cleared = clear(count, table, bytes);
     match cleared {
@@ -65,7 +66,8 @@ pub extern "C" fn tapunerow_add(
     refs: &[u32],
     answer: &mut [usize; 1],
 ) -> u32
-    ensures { λ r. ⌜ WireAdds (now (count .entry)) (now (table .entry)) (now (bytes .entry)) exotic bits (now (own .entry)) (now (refs .entry)) r (now (count .exit)) (now (table .exit)) (now (bytes .exit)) (now (answer .exit)) ⌝ }
+    ensures { λ r. ⌜ WireAdds (now (count .entry)) (now (table .entry)) (now (bytes .entry)) exotic bits (now (own .entry)) (now (refs .entry))
+        r (now (count .exit)) (now (table .exit)) (now (bytes .exit)) (now (answer .exit)) ⌝ }
 {
     if !holds(own.len(), bits) {
         *answer = [0];
@@ -178,7 +180,8 @@ fn read(
     scratch: &mut [u32],
     roots: &mut [u32],
 ) -> ReadAnswer
-    ensures { λ r. ⌜ Reads whole (now (count .entry)) (now (table .entry)) (now (bytes .entry)) (now (scratch .entry)) (now (roots .entry)) (now (reply .entry)) r (now (count .exit)) (now (table .exit)) (now (bytes .exit)) (now (scratch .exit)) (now (roots .exit)) ⌝ }
+    ensures { λ r. ⌜ Reads whole (now (count .entry)) (now (table .entry)) (now (bytes .entry)) (now (scratch .entry)) (now (roots .entry)) (now (reply .entry))
+        r (now (count .exit)) (now (table .exit)) (now (bytes .exit)) (now (scratch .exit)) (now (roots .exit)) ⌝ }
 {
     if whole {
         return unpack_fully(reply, count, table, bytes, scratch, roots);
@@ -198,7 +201,8 @@ pub extern "C" fn tapunerow_read(
     roots: &mut [u32],
     answer: &mut [usize; 4],
 ) -> u32
-    ensures { λ r. ⌜ WireReads whole (now (count .entry)) (now (table .entry)) (now (bytes .entry)) (now (scratch .entry)) (now (roots .entry)) (now (reply .entry)) r (now (count .exit)) (now (table .exit)) (now (bytes .exit)) (now (scratch .exit)) (now (roots .exit)) (now (answer .exit)) ⌝ }
+    ensures { λ r. ⌜ WireReads whole (now (count .entry)) (now (table .entry)) (now (bytes .entry)) (now (scratch .entry)) (now (roots .entry)) (now (reply .entry))
+        r (now (count .exit)) (now (table .exit)) (now (bytes .exit)) (now (scratch .exit)) (now (roots .exit)) (now (answer .exit)) ⌝ }
 {
     let done = read(reply, is_set(whole), count, table, bytes, scratch, roots);
     match done {
@@ -226,7 +230,8 @@ pub extern "C" fn tapunerow_write(
     out: &mut [u8],
     answer: &mut [usize; 1],
 ) -> u32
-    ensures { λ r. ⌜ WireWrites «has_idx» «has_crc32c» count (now (table .entry)) (now (bytes .entry)) n (now (scratch .entry)) (now (out .entry)) r (now (scratch .exit)) (now (out .exit)) (now (answer .exit)) ⌝ }
+    ensures { λ r. ⌜ WireWrites «has_idx» «has_crc32c» count (now (table .entry)) (now (bytes .entry)) n (now (scratch .entry)) (now (out .entry))
+        r (now (scratch .exit)) (now (out .exit)) (now (answer .exit)) ⌝ }
 {
     let args = BagOfCellsArgs {
         has_idx: is_set(has_idx),
@@ -282,7 +287,8 @@ pub extern "C" fn tapunerow_text(
     out: &mut [u8],
     answer: &mut [usize; 2],
 ) -> u32
-    ensures { λ r. ⌜ WirePrints count (now (table .entry)) (now (bytes .entry)) n budget (now (scratch .entry)) (now (out .entry)) r (now (scratch .exit)) (now (out .exit)) (now (answer .exit)) ⌝ }
+    ensures { λ r. ⌜ WirePrints count (now (table .entry)) (now (bytes .entry)) n budget (now (scratch .entry)) (now (out .entry))
+        r (now (scratch .exit)) (now (out .exit)) (now (answer .exit)) ⌝ }
 {
     let text = debug_text(count, table, bytes, n, budget, scratch, out);
     match text {

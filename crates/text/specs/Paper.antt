@@ -1,8 +1,7 @@
 -- What printing answers in the definitions' words, what it promises, and that the promise leaves one outcome.
-use mathlib.Core.Path.{_≡_, refl, ap}
+use mathlib.Core.Path.{_≡_, ap}
 use Prim.Native.Nat.{ℕ}
 use mathlib.Core.List.{List}
-use lib.ListN.{length}
 use Rattle.scheme.specs.Res.{Res, bad, ok, then}
 use Rattle.scheme.specs.Text.{Page, page}
 use Rattle.scheme.specs.Calls.{Printed, lent, printing}

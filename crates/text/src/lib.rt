@@ -136,7 +136,8 @@ fn length_alone(table: &[u32], i: usize) -> u32
 fn all_lengths(table: &[u32], n: usize, cap: u32, scratch: &mut [u32])
     requires { ⌜ Linked (now table) n ⌝ }
     requires { ⌜ n ≤ length (now scratch) ⌝ }
-    ensures { λ _. ⌜ ((d : List ℕ) → n * 128 ≤ length d → now (scratch .exit) ≡ map (min cap) (below lengthStep 0 (cellAt (now (table .entry)) d) n) ++ drop n (now (scratch .entry))) ⌝ }
+    ensures { λ _. ⌜ ((d : List ℕ) → n * 128 ≤ length d
+        → now (scratch .exit) ≡ map (min cap) (below lengthStep 0 (cellAt (now (table .entry)) d) n) ++ drop n (now (scratch .entry))) ⌝ }
 {
     let mut i = 0;
     while i < n {
@@ -358,7 +359,8 @@ pub fn debug_text(
     scratch: &mut [u32],
     out: &mut [u8],
 ) -> Text
-    ensures { λ r. ⌜ Prints count (now (table .entry)) (now (bytes .entry)) n budget (now (scratch .entry)) (now (out .entry)) r (now (scratch .exit)) (now (out .exit)) ⌝ }
+    ensures { λ r. ⌜ Prints count (now (table .entry)) (now (bytes .entry)) n budget (now (scratch .entry)) (now (out .entry))
+        r (now (scratch .exit)) (now (out .exit)) ⌝ }
 {
     let v = decide(count, table, bytes, n, budget, scratch, out.len());
     zero_numbers(scratch);

@@ -14,9 +14,9 @@ use Rattle.scheme.specs.Cells.{Cell}
 use Rattle.scheme.specs.Bag.{Bag, bag, Got, Counts, read, load}
 use Rattle.scheme.specs.Memory.{capacity, cellsOf, sound, held}
 use Rattle.scheme.specs.Calls.{reading}
-use Rattle.laws.specs.Accept.{then-use, check-inv}
+use Rattle.laws.specs.Accept.{Small, then-use, check-inv}
 use Rattle.theorems.specs.MeaningLaws.{call-taken}
-use Rattle.theorems.specs.Grammar.{Small, Says}
+use Rattle.theorems.specs.Grammar.{Says}
 use Rattle.theorems.specs.GrammarBag.{parsed}
 use Rattle.theorems.specs.GrammarBack.{accepted}
 
@@ -49,7 +49,8 @@ pub record Fits (whole : Bool) (scratch room cap : ℕ) (s : List Cell) (b : Lis
   pub free : length ((load s 0 (bag-read .cells)) .store) ≤ cap
 
 -- Demand 2, of a store: a read is accepted exactly when the bytes are a text of the grammar whose new cells have room.
-pub accepts-read : (whole : Bool) (scratch room cap : ℕ) (s : List Cell) (b : List ℕ) → Small b → ((g : Got) × (read whole scratch room cap s b ≡ ok g)) ↔ Fits whole scratch room cap s b
+pub accepts-read : (whole : Bool) (scratch room cap : ℕ) (s : List Cell) (b : List ℕ) → Small b
+    → ((g : Got) × (read whole scratch room cap s b ≡ ok g)) ↔ Fits whole scratch room cap s b
 unfolding read
 accepts-read whole scratch room cap s b S = (λ r. there r, λ F. back F)
   where
@@ -68,9 +69,11 @@ accepts-read whole scratch room cap s b S = (λ r. there r, λ F. back F)
         let p = (grammar whole scratch room b (F .bag-read) S) .1 (F .says) in
         (gotOf s (F .bag-read), rw (p, le-leb (length ((load s 0 (F .bag-read .cells)) .store)) cap (F .free)))
 
--- Demand 2, of the calls with all memory: deserialize and unpack_fully accept exactly when the store is sound, the bytes are a text of the grammar, and its new cells have room.
+-- Demand 2, of the calls with all memory: deserialize and unpack_fully accept exactly when the store is sound, the bytes are a text of the grammar,
+-- and its new cells have room.
 pub accepts-reading : (whole : Bool) (n : ℕ) (t d scratch roots b : List ℕ) → Small b
-    → ((c : Counts) × ((reading whole n t d scratch roots b) .answer ≡ ok c)) ↔ ((sound n t d ≡ true) × Fits whole (length scratch) (length roots) (capacity t) (cellsOf n t d) b)
+    → ((c : Counts) × ((reading whole n t d scratch roots b) .answer ≡ ok c))
+    ↔ ((sound n t d ≡ true) × Fits whole (length scratch) (length roots) (capacity t) (cellsOf n t d) b)
 unfolding reading held
 accepts-reading whole n t d scratch roots b S = (λ r. there r, λ F. back F)
   where

@@ -13,7 +13,8 @@ use Rattle.scheme.specs.Cells.{Cell, eqbs}
 use Rattle.scheme.specs.Bits.{lowBits, bitsOf, firstBits, lastOf, zeros, unmark}
 use Rattle.laws.specs.Tests.{eqbs-true, and-left, and-right}
 use Rattle.laws.specs.CellRound.{allBelow, allBelow-true, last-mem}
-use Rattle.theorems.specs.Grammar.{Small, RawCell, cellOf, RawCellOk}
+use Rattle.laws.specs.Accept.{Small}
+use Rattle.theorems.specs.Grammar.{RawCell, cellOf, RawCellOk}
 
 -- a last byte: its bits before the last 1, the 1, and the zeros behind it
 abbrev lastTest : ℕ → Bool
@@ -57,7 +58,7 @@ bits-length : (xs : List ℕ) → length (bitsOf xs) ≡ 8 * length xs
 bits-length [] = refl
 bits-length (x ∷ xs) = omega (arith, bits-length xs)
 
-some-bytes : (l : List ℕ) → (lastOf l ≡ 0 → ⊥) → 0 < length l
+pub some-bytes : (l : List ℕ) → (lastOf l ≡ 0 → ⊥) → 0 < length l
 some-bytes [] h = absurd (h refl)
 some-bytes (x ∷ xs) h = omega arith
 

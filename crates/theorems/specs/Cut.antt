@@ -54,7 +54,8 @@ pub cut-replies : (scratch room : ℕ) (b : List ℕ) (g : Bag) → bag true scr
 cut-replies scratch room b g e k h whole = cut-bag true scratch room b g e k (omega (arith, used-all scratch room b g e)) whole
 
 -- Cut replies: the place of the refusal is that of a field of the bag which is not whole; every field before it is.
-pub cut-place : (scratch room : ℕ) (b : List ℕ) (g : Bag) → bag true scratch room b ≡ ok g → (k : ℕ) → k < length b → NotWhole (bagFields b) k (cutPlace 0 k (bagFields b))
+pub cut-place : (scratch room : ℕ) (b : List ℕ) (g : Bag) → bag true scratch room b ≡ ok g
+    → (k : ℕ) → k < length b → NotWhole (bagFields b) k (cutPlace 0 k (bagFields b))
 cut-place scratch room b g e k h = not-whole k [] (bagFields b) (omega arith) (omega (arith, used-fields true scratch room b g e, used-all scratch room b g e))
 
 -- Cut replies, of a store: as long as the bag itself would be read, so that CUT is the only reason.

@@ -9,15 +9,13 @@ use lib.ListN.{length, take, drop, replicate}
 use lib.Seq.{length-take-le, take-take}
 use lib.Dec.{eqb, leb}
 use borrow.Author.Tests.{leb-true, leb-false, le-leb, lt-leb}
-use Rattle.scheme.specs.Refusals.{CUT}
+use Rattle.scheme.specs.Refusals.{CUT, SIZE, OFFSET, COUNTS, CELLS, SCRATCH, ROOTROOM, REFS, CRC}
 use Rattle.scheme.specs.Res.{Res, bad, ok, then, check, refusal}
-use Rattle.scheme.specs.Bytes.{unbe, chunk, field, fields}
+use Rattle.scheme.specs.Bytes.{unbe, chunk, field, fields, unle}
 use Rattle.scheme.specs.Bag.{hashes, bits, rawCell, rawCells, Past, Header, header, numbers, checksum, readScratch}
 use Rattle.scheme.specs.Layout.{layout, tagOk}
 use Rattle.scheme.specs.Limits.{maxCells, maxRefs}
-use Rattle.scheme.specs.Refusals.{SIZE, OFFSET, COUNTS, CELLS, SCRATCH, ROOTROOM, REFS, CRC}
 use Rattle.scheme.specs.Crc.{crcOf}
-use Rattle.scheme.specs.Bytes.{unle}
 use Rattle.scheme.specs.Cells.{Cell}
 use Rattle.laws.specs.Accept.{then-use, check-inv}
 use Rattle.theorems.specs.Places.{total, cutPlace, numberAt, sizeIn, offIn, countIn, rootsIn, idxIn, crcIn, cellFields, cellsFields}

@@ -12,10 +12,7 @@ use Rattle.scheme.specs.Cells.{Cell, at}
 use Rattle.scheme.specs.Layout.{genericTag}
 use Rattle.scheme.specs.Bag.{Bag, readScratch}
 use Rattle.scheme.specs.Write.{allBe}
-
--- these are bytes
-abbrev pub Small : List ℕ → Type 0
-Small l = (x : ℕ) → Mem x l → x < 256
+use Rattle.laws.specs.Accept.{Small}
 
 -- ---- a cell
 

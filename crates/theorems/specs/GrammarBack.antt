@@ -16,12 +16,15 @@ use Rattle.scheme.specs.Bits.{bitOf, lastOf, zeros, unmark}
 use Rattle.scheme.specs.Crc.{crcOf}
 use Rattle.scheme.specs.Cells.{Cell, at}
 use Rattle.scheme.specs.Layout.{layout, tagOk, genericTag}
-use Rattle.scheme.specs.Bag.{hashes, bits, Bits, Past, rawCell, rawCells, header, readScratch, numbers, rootList, index, checksum, refsOk, links, rootsOk, bag}
+use Rattle.scheme.specs.Bag.{hashes, bits, Bits, rawCell, rawCells, header, readScratch, numbers, rootList, index, checksum, links, rootsOk, bag}
 use Rattle.scheme.specs.Write.{allBe}
-use Rattle.laws.specs.CellRound.{allBelow, allBelow-true, refs-back, length-refs}
+use Rattle.laws.specs.CellRound.{allBelow, allBelow-true, refs-back, length-refs, past-path}
+use Rattle.laws.specs.BagRound.{refs-ok}
+use Rattle.laws.specs.WrittenBack.{crc-small}
 use Rattle.laws.specs.CellLaws.{cell-path}
 use Rattle.laws.specs.Tests.{and-left, and-right}
 use Rattle.laws.specs.Fields.{At, at-start, at-move, at-same, at-next, at-chunk, field-be, field-byte, length-be, length-le, unle-le}
+use Rattle.theorems.specs.Completion.{some-bytes}
 use Rattle.theorems.specs.Grammar.{RawCell, onesIn, refsDescriptor, bitsDescriptor, cellText, cellsText, cellOf, RawCellOk, Head, byte4, unsigned, serialized, bagOf, Admissible}
 
 -- d1 read back
@@ -52,10 +55,6 @@ d2-back : (n : ℕ) (done : Bool) → (done ≡ true → 0 < n) → ((2 * n - bi
 d2-back n true h = let g = h refl in let z : (2 * n - 1) % 2 ≡ 1 = omega arith in (omega arith, rw z)
 d2-back n false h = let z : (2 * n - 0) % 2 ≡ 0 = omega arith in (omega arith, rw z)
 
-some-bytes : (l : List ℕ) → (lastOf l ≡ 0 → ⊥) → 0 < length l
-some-bytes [] h = absurd (h refl)
-some-bytes (x ∷ xs) h = omega arith
-
 abbrev bitsIn : Bool → List ℕ → Bits
 bitsIn done xs = record { len = cond done (8 * length xs - 1 - zeros 8 (lastOf xs)) (8 * length xs); bytes = cond done (unmark (zeros 8 (lastOf xs)) xs) xs }
 
@@ -63,9 +62,6 @@ bits-back : (done : Bool) (q : ℕ) (xs : List ℕ) → (done ≡ true → lastO
 unfolding bits
 bits-back false q xs h = refl
 bits-back true q xs h = rw (ne-eqb (lastOf xs) 0 (h refl))
-
-past-path : (a b : Past Cell) → a .it ≡ b .it → a .next ≡ b .next → a ≡ b
-past-path a b p q = λ i. record { it = p i; next = q i }
 
 pub cell-back : {b : List ℕ} (size : ℕ) {p : ℕ} (c : RawCell) (l : List ℕ) → RawCellOk c → ((r : ℕ) → Mem r (c .refs) → r < 256 ^ size) → At b p (cellText size c ++ l)
     → rawCell b size p ≡ ok (record { it = cellOf c; next = p + length (cellText size c) })
@@ -97,18 +93,15 @@ cell-back {b} size {p} c l F R A =
     rw (D .0) (omega (arith, length-append hs (xs ++ allBe size rs), length-append xs (allBe size rs), length-refs size rs)) in
     rw (f₁, f₂, f₃, f₄, f₅, f₆, f₇) (ap ok (past-path _ _ (cell-path _ _ (D .1) refl refl refl) next))
 
-cells-path : (a b : Past (List Cell)) → a .it ≡ b .it → a .next ≡ b .next → a ≡ b
-cells-path a b p q = λ i. record { it = p i; next = q i }
-
 pub cells-back : {b : List ℕ} (size : ℕ) {p : ℕ} (cs : List RawCell) (l : List ℕ) → ((c : RawCell) → Mem c cs → RawCellOk c)
     → ((c : RawCell) → Mem c cs → (r : ℕ) → Mem r (c .refs) → r < 256 ^ size) → At b p (cellsText size cs ++ l)
     → rawCells b size (length cs) p ≡ ok (record { it = map cellOf cs; next = p + length (cellsText size cs) })
-cells-back size {p} [] l F R A = ap ok (cells-path _ _ refl (omega arith))
+cells-back size {p} [] l F R A = ap ok (past-path _ _ refl (omega arith))
 cells-back size {p} (c ∷ cs) l F R A =
     let A₁ = at-same (cellText size c ++ (cellsText size cs ++ l)) A (append-assoc (cellText size c) (cellsText size cs) l) in
     let ih = cells-back size cs l (λ d m. F d (there m)) (λ d m. R d (there m)) (at-next (cellText size c) (cellsText size cs ++ l) (length (cellText size c)) A₁ refl) in
     let next : p + length (cellText size c) + length (cellsText size cs) ≡ p + length (cellsText size (c ∷ cs)) = omega (arith, length-append (cellText size c) (cellsText size cs)) in
-    rw (cell-back size c (cellsText size cs ++ l) (F c (here refl)) (R c (here refl)) A₁, ih) (ap ok (cells-path _ _ refl next))
+    rw (cell-back size c (cellsText size cs ++ l) (F c (here refl)) (R c (here refl)) A₁, ih) (ap ok (past-path _ _ refl next))
 
 -- byte 4 read back
 abbrev byteOf : Bool → Bool → Bool → ℕ → ℕ → ℕ
@@ -149,14 +142,6 @@ layout-back idx sum cache flags size hf hs =
     let q : eqb (byteOf idx sum cache flags size / 128 % 2) 1 ≡ idx = rw q₁ (bit-is idx) in
     let r : eqb (byteOf idx sum cache flags size / 64 % 2) 1 ≡ sum = rw r₁ (bit-is sum) in
     λ i. record { size = p i; has-idx = q i; has-crc = r i; has-list = true }
-
-crc-small : (x : List ℕ) → crcOf x < 256 ^ 4
-unfolding crcOf
-crc-small x = omega arith
-
-refs-ok : (i n : ℕ) (rs : List ℕ) → ((r : ℕ) → Mem r rs → (i < r) × (r < n)) → refsOk i n rs ≡ ok tt
-refs-ok i n [] h = refl
-refs-ok i n (r ∷ rs) h = rw (lt-ltb i r ((h r (here refl)) .0), lt-ltb r n ((h r (here refl)) .1)) (refs-ok i n rs (λ x m. h x (there m)))
 
 links-ok : (i n : ℕ) (cs : List Cell) → ((k : ℕ) → k < length cs → (r : ℕ) → Mem r (at cs k .refs) → (i + k < r) × (r < n)) → links i n cs ≡ ok tt
 links-ok i n [] h = refl

@@ -20,9 +20,9 @@ use Rattle.scheme.specs.Layout.{Layout, layout, tagOk, genericTag, indexedTag, 
 use Rattle.scheme.specs.Bag.{Past, Header, header, readScratch, numbers, rootList, index, rawCells, checksum, links, rootsOk, Bag, bag}
 use Rattle.scheme.specs.Write.{allBe}
 use Rattle.laws.specs.CellRound.{allBelow, allBelow-true}
-use Rattle.laws.specs.Accept.{then-use, check-inv, links-inv, roots-inv}
-use Rattle.theorems.specs.MeaningLaws.{linked-at}
-use Rattle.theorems.specs.Grammar.{Small, cellOf, Head, byte4, unsigned, serialized, bagOf, Admissible, Says}
+use Rattle.laws.specs.Accept.{Small, then-use, check-inv, links-inv, roots-inv}
+use Rattle.laws.specs.Meaning.{linked-at}
+use Rattle.theorems.specs.Grammar.{cellOf, Head, byte4, unsigned, serialized, bagOf, Admissible, Says}
 use Rattle.theorems.specs.GrammarOf.{Stands, stands-then, stands-none, chunk-text, field-text, fields-text, byte-text, le-unle, CellsText, cells-text}
 
 -- the front of a text up to a place

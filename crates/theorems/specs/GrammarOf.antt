@@ -21,9 +21,9 @@ use Rattle.scheme.specs.Write.{allBe}
 use Rattle.laws.specs.CellRound.{allBelow, allBelow-true}
 use Rattle.laws.specs.CellLaws.{cell-path}
 use Rattle.laws.specs.Tests.{and-left, and-right}
-use Rattle.laws.specs.Accept.{then-use, check-inv, chunk-inv}
+use Rattle.laws.specs.Accept.{Small, then-use, check-inv, chunk-inv}
 use Rattle.theorems.specs.Front.{chunk-is}
-use Rattle.theorems.specs.Grammar.{Small, RawCell, onesIn, refsDescriptor, bitsDescriptor, cellText, cellsText, cellOf, RawCellOk}
+use Rattle.theorems.specs.Grammar.{RawCell, onesIn, refsDescriptor, bitsDescriptor, cellText, cellsText, cellOf, RawCellOk}
 
 -- ---- numbers
 

@@ -2,20 +2,18 @@
 -- Assumes nothing.
 use mathlib.Core.Path.{_≡_, refl, sym, ap, _∙_, subst}
 use mathlib.Core.Logic.{_↔_}
-use Prim.Native.Nat.{ℕ, zero, suc, _+_, _-_, _*_, _/_, _%_, _^_, _≤_, _<_}
-use native.Mathlib.Nat.{not-suc-le-zero}
+use Prim.Native.Nat.{ℕ, _-_, _*_, _/_, _≤_, _<_}
 use native.Mathlib.Omega.{arith}
 use mathlib.Core.Bool.{Bool, true, false}
-use mathlib.Core.List.{List, [], _∷_, _++_, List·Memᴰ as Mem, List·Memᴰ·head as here, List·Memᴰ·tail as there}
-use lib.ListN.{length, getD, take, drop, replicate, length-append, length-replicate}
+use mathlib.Core.List.{List, [], _∷_, List·Memᴰ as Mem}
+use lib.ListN.{length, take, drop, replicate, length-append, length-replicate}
 use lib.Seq.{take-at}
 use lib.Dec.{leb, ltb}
-use borrow.Author.Tests.{ltb-true, leb-true}
+use borrow.Author.Tests.{ltb-true}
 use Rattle.scheme.specs.Refusals.{STORE}
 use Rattle.scheme.specs.Res.{Res, bad, ok, then, check, refusal}
-use Rattle.scheme.specs.Bits.{bytesFor, lastOf}
 use Rattle.scheme.specs.Cells.{Cell, at, tree}
-use Rattle.scheme.specs.Memory.{capacity, cellsOf, sized, sound, held, rows, layTable, layBytes}
+use Rattle.scheme.specs.Memory.{cellsOf, sized, sound, held, rows, layTable, layBytes}
 use Rattle.scheme.specs.Builder.{Builder}
 use Rattle.scheme.specs.Add.{Added, add}
 use Rattle.scheme.specs.Bag.{Got, read}
@@ -24,7 +22,6 @@ use Rattle.scheme.specs.Write.{serialized}
 use Rattle.scheme.specs.Calls.{StoreOut, ReadOut, WriteOut, onto, zeroed, clearOut, clearing, addOut, adding, readOut, reading, lent, writeOut, writing}
 use Rattle.laws.specs.Accept.{Small, then-use, check-inv}
 use Rattle.laws.specs.Add.{Typed}
-use Rattle.laws.specs.CellRound.{Fit}
 use Rattle.laws.specs.Kept.{Kept, kept-nil, write-inv, Op, clears, adds, reads, TypedOp, addedStore, gotStore, kept-after}
 use Rattle.laws.specs.Kept as lists
 use Rattle.laws.specs.Reach.{Listing, listing}
@@ -237,7 +234,7 @@ module _ (cap : ℕ) (few : cap ≤ 4096) (s : List Cell) (K : Kept cap s) where
     sound-store = sound-here;
     lower = λ i r h m. K .sound .low i h r (subst (λ (l : List Cell). Mem r ((at l i) .refs)) cells-here m);
     same = λ i j h g. rw cells-here (λ e. ap (tree s) e, unique s (K .sound) i j h g);
-    lists = λ root h. rw cells-here (listing s (K .sound) root h);
+    lists = λ root h. rw cells-here (listing s (K .sound .low) root h);
     back = λ root idx crc scratch out len e whole scratch′ roots hx hy. rw cells-here (back-here root idx crc scratch out whole scratch′ roots (rw cells-here at hx) hy len e);
   }
 

@@ -15,10 +15,13 @@ use Rattle.scheme.specs.Bag.{Bag, bag, Got, Counts, read, load}
 use Rattle.scheme.specs.Memory.{capacity, cellsOf, held, layTable, layBytes}
 use Rattle.scheme.specs.Calls.{ReadOut, readOut, reading, onto}
 use Rattle.laws.specs.Accept.{then-use, Small, bag-inv, read-inv}
+use Rattle.laws.specs.Unique.{Low}
+use Rattle.laws.specs.Lists.{getD-map, mem-at}
+use Rattle.laws.specs.Meaning.{placed, same-tree, tree-append}
 use Rattle.laws.specs.Records.{cells-length}
 use Rattle.theorems.specs.Places.{total, bagFields}
 use Rattle.theorems.specs.Cut.{used-fields}
-use Rattle.theorems.specs.MeaningLaws.{Low, placed, same-tree, tree-append, memory-low, mem-at, getD-map, held-load, call-taken}
+use Rattle.theorems.specs.MeaningLaws.{memory-low, held-load, call-taken}
 
 -- what an accepted read of the bag a, whose bytes are b, made of the store s
 pub record Means (s : List Cell) (b : List ℕ) (a : Bag) (g : Got) : Type 0 where

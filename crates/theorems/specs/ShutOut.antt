@@ -7,7 +7,7 @@ use Prim.Native.Nat.{ℕ, zero, suc, _≤_, _<_}
 use native.Mathlib.Nat.{not-suc-le-zero}
 use native.Mathlib.Omega.{arith}
 use mathlib.Core.Bool.{Bool, true, false, _&&_}
-use mathlib.Core.List.{List, [], _∷_, _++_, map, List·Memᴰ as Mem, List·Memᴰ·head as here, List·Memᴰ·tail as there}
+use mathlib.Core.List.{List, [], _∷_, _++_, map, List·Memᴰ·head as here, List·Memᴰ·tail as there}
 use lib.ListN.{length, take, set, getD, replicate}
 use lib.Dec.{ltb}
 use borrow.Author.Tests.{ltb-true}
@@ -28,12 +28,12 @@ use Rattle.scheme.specs.Text.{treeSize, page}
 use Rattle.scheme.specs.Memory.{cellAt, cellsOf, sized, rows, blocks, layTable, layBytes}
 use Rattle.scheme.specs.Calls.{clearing, laid}
 use Rattle.laws.specs.Tests.{and-left, and-right}
+use Rattle.laws.specs.Unique.{Low}
 use Rattle.laws.specs.Accept.{Small}
 use Rattle.laws.specs.Add.{Typed}
 use Rattle.laws.specs.CellRound.{Fit}
 use Rattle.theorems.specs.Places.{cutPlace, bagFields}
 use Rattle.theorems.specs.Cut.{cut-replies}
-use Rattle.theorems.specs.MeaningLaws.{Low}
 use Rattle.theorems.specs.Meaning.{Means, read-means}
 use Rattle.theorems.specs.Grammar.{Says, serialized}
 use Rattle.theorems.specs.Accepts.{grammar, Fits, accepts-read}

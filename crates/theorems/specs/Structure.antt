@@ -16,9 +16,10 @@ use Rattle.scheme.specs.Depth.{isPruned, prunedDepth, depthStep, depth}
 use Rattle.scheme.specs.Text.{textStep, sum, sizeStep, treeSize, heightStep, page, Page}
 use Rattle.scheme.specs.Memory.{cellsOf, sound, held}
 use Rattle.scheme.specs.Calls.{lent, measuring, printing, printOut}
+use Rattle.laws.specs.Unique.{Low}
 use Rattle.laws.specs.Accept.{then-use, check-inv}
 use Rattle.laws.specs.Folds.{Under, value-eq}
-use Rattle.theorems.specs.MeaningLaws.{Low, memory-low}
+use Rattle.theorems.specs.MeaningLaws.{memory-low}
 
 -- a value of a structure, from each cell without its references and the values of the structures that it refers to
 module _ {A : Type 0} (f : Cell → List A → A) where
@@ -30,7 +31,8 @@ module _ {A : Type 0} (f : Cell → List A → A) where
     foldForest none = []
     foldForest (more t ts) = foldTree t ∷ foldForest ts
 
-fold-forest : {A : Type 0} (f : Cell → List A → A) (g : ℕ → A) (u : ℕ → Tree) (rs : List ℕ) → ((r : ℕ) → Mem r rs → g r ≡ foldTree f (u r)) → map g rs ≡ foldForest f (forest u rs)
+fold-forest : {A : Type 0} (f : Cell → List A → A) (g : ℕ → A) (u : ℕ → Tree) (rs : List ℕ)
+    → ((r : ℕ) → Mem r rs → g r ≡ foldTree f (u r)) → map g rs ≡ foldForest f (forest u rs)
 fold-forest f g u [] h = refl
 fold-forest f g u (r ∷ rs) h = let p = h r (here refl) in let q = fold-forest f g u rs (λ x m. h x (there m)) in cc
 
@@ -143,13 +145,11 @@ module _ (n m : ℕ) (t d t′ d′ : List ℕ) (i j : ℕ) (scratch scratch′ 
   unfolding measuring
   same-measuring = rw (x, y) (same-depth s u (L .low) (M .low) i j (L .holds) (M .holds) e)
 
-  -- Two calls of debug_text on such cells, with the same budget and outputs of the same length, answer the same and write the same text.
-  pub same-printing : (budget : ℕ) (out out′ : List ℕ) → length out ≡ length out′ → (printing n t d i budget scratch out) .answer ≡ (printing m t′ d′ j budget scratch′ out′) .answer
+  -- Two calls of debug_text on such cells, with the same budget and outputs of the same length, have the outcome of one page: they answer the same
+  -- and write the same text.
+  pub same-printing : (budget : ℕ) (out out′ : List ℕ) → length out ≡ length out′
+      → (p : Res Page) × (printing n t d i budget scratch out ≡ printOut scratch out p) × (printing m t′ d′ j budget scratch′ out′ ≡ printOut scratch′ out′ p)
   unfolding printing
   same-printing budget out out′ l =
       let q = same-text s u (L .low) (M .low) i j (L .holds) (M .holds) e budget (length out′) in
-      rw (x, y, l, q) (answers (page u j budget (length out′)))
-    where
-      answers : (r : Res Page) → (printOut scratch out r) .answer ≡ (printOut scratch′ out′ r) .answer
-      answers (bad r) = refl
-      answers (ok p) = refl
+      (page u j budget (length out′), rw (x, l, q), rw y)

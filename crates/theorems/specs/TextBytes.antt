@@ -10,7 +10,8 @@ use Rattle.scheme.specs.Bits.{bitOf}
 use Rattle.scheme.specs.Crc.{crcOf}
 use Rattle.scheme.specs.Layout.{genericTag}
 use Rattle.scheme.specs.Write.{allBe}
-use Rattle.theorems.specs.Grammar.{Small, RawCell, refsDescriptor, cellText, cellsText, RawCellOk, Head, byte4, unsigned, serialized, Admissible}
+use Rattle.laws.specs.Accept.{Small}
+use Rattle.theorems.specs.Grammar.{RawCell, refsDescriptor, cellText, cellsText, RawCellOk, Head, byte4, unsigned, serialized, Admissible}
 
 small-none : Small []
 small-none x m = elim m [ ]

@@ -23,13 +23,17 @@ use Rattle.laws.specs.Records.{cells-length, sound-few}
 use Rattle.laws.specs.Distinct.{nodup-bound}
 use Rattle.laws.specs.Fields.{width-holds, width-le}
 use Rattle.laws.specs.CellRound.{Fit}
-use Rattle.laws.specs.Reach.{Listing}
+use Rattle.laws.specs.Unique.{Low}
+use Rattle.laws.specs.Lists.{mem-map}
+use Rattle.laws.specs.Meaning.{linked-at}
+use Rattle.laws.specs.Reach.{Listing, listing, reach-held}
+use Rattle.laws.specs.WrittenBack.{bag-linked, fit-bag}
 use Rattle.laws.specs.Round.{plainCells}
 use Rattle.theorems.specs.Grammar.{RawCell, RawCellOk, cellsText, cellOf, serialized, bagOf, Admissible}
 use Rattle.theorems.specs.GrammarBack.{accepted}
 use Rattle.theorems.specs.Written.{listed, headFor}
-use Rattle.theorems.specs.MeaningLaws.{Low, linked-at, memory-low, memory-fit}
-use Rattle.theorems.specs.WritingLaws.{reach-held, listing, bag-linked, text-is, rawAt, raw-fine, fit-bag, cells-again, head-fine, listed-short, listed-tree, mem-map}
+use Rattle.theorems.specs.MeaningLaws.{memory-low, memory-fit}
+use Rattle.theorems.specs.WritingLaws.{text-is, rawAt, raw-fine, cells-again, head-fine, listed-short, listed-tree}
 
 -- Writing: the fewest bytes that hold a number hold it, and no fewer do.
 pub fewest : (n k : ℕ) → n < 256 ^ 8 → (n < 256 ^ width 8 n) × (n < 256 ^ k → width 8 n ≤ k)
@@ -49,7 +53,8 @@ pub record Writes (has-idx has-crc : Bool) (s : List Cell) (root : ℕ) (b : Lis
   pub structure : (k : ℕ) → k < length out → tree (map cellOf (listed s out)) k ≡ tree s (getD out k 0)
 
 -- Writing: what is written of a held cell, in every store of cells that are fit to be stored, with references to lower numbers.
-pub writes : (has-idx has-crc : Bool) (s : List Cell) (root : ℕ) → Low s → ((x : ℕ) → x < length s → Fit (at s x)) → length s ≤ maxCells → root < length s
+pub writes : (has-idx has-crc : Bool) (s : List Cell) (root : ℕ)
+    → Low s → ((x : ℕ) → x < length s → Fit (at s x)) → length s ≤ maxCells → root < length s
     → Writes has-idx has-crc s root (write has-idx has-crc s root)
 unfolding write headFor
 writes idx sum s root S F most h =
@@ -89,7 +94,8 @@ unfolding bagOf headFor
 written-is-read idx sum s root b W whole scratch room hs hr =
     let cs = listed s (W .out) in
     let A = accepted whole scratch room (headFor idx sum cs) cs [] (W .admissible scratch room hs hr) (λ w. refl) in
-    let B : bag whole scratch room b ≡ ok (bagOf (headFor idx sum cs) cs) = ap (λ (l : List ℕ). bag whole scratch room l) (W .text ∙ sym (append-nil (serialized (headFor idx sum cs) cs))) ∙ A in
+    let B : bag whole scratch room b ≡ ok (bagOf (headFor idx sum cs) cs) =
+    ap (λ (l : List ℕ). bag whole scratch room l) (W .text ∙ sym (append-nil (serialized (headFor idx sum cs) cs))) ∙ A in
     B ∙ ap ok (λ i. record { used = length (sym (W .text) i); cells = W .cells i; roots = 0 ∷ [] })
 
 -- what an accepted call of serialize made of lent memory
@@ -102,7 +108,8 @@ pub record CallWrites (has-idx has-crc : Bool) (n : ℕ) (t d : List ℕ) (root 
 
 -- Writing, of the call with all memory: an accepted serialize puts the text of the listing at the front of the output, and changes nothing behind it.
 pub writing-means : (has-idx has-crc : Bool) (n : ℕ) (t d : List ℕ) (root : ℕ) (scratch out : List ℕ) (len : ℕ) → Small d
-    → (writing has-idx has-crc n t d root scratch out) .answer ≡ ok len → CallWrites has-idx has-crc n t d root out len (writing has-idx has-crc n t d root scratch out)
+    → (writing has-idx has-crc n t d root scratch out) .answer ≡ ok len
+    → CallWrites has-idx has-crc n t d root out len (writing has-idx has-crc n t d root scratch out)
 unfolding writing lent held serialize
 writing-means idx sum n t d root scratch out len B e = go (then (lent 4 n t d root (length scratch)) λ s. serialize idx sum s root (length out)) refl e
   where

@@ -1,13 +1,12 @@
--- The listing of a store that may hold a cell twice, and the bytes that are written of it.
+-- The bytes that are written of a listing.
 -- Assumes nothing.
 use mathlib.Core.Path.{_≡_, refl, sym, ap, _∙_}
-use mathlib.Core.Logic.{_⊎_, inl, inr, _≢_}
+use mathlib.Core.Logic.{_≢_}
 use Prim.Native.Nat.{ℕ, zero, suc, _+_, _-_, _*_, _/_, _%_, _^_, _≤_, _<_}
 use native.Mathlib.Nat.{not-suc-le-zero, le-of-suc-le-suc}
 use native.Mathlib.Omega.{arith}
 use mathlib.Core.Bool.{Bool, true, false, cond, not, _||_, _&&_}
-use mathlib.Core.List.{List, [], _∷_, _++_, map, append-assoc, append-nil, List·Memᴰ as Mem, List·Memᴰ·head as here, List·Memᴰ·tail as there}
-use mathlib.Core.List.{List·Memᴰ·not-nil}
+use mathlib.Core.List.{List, [], _∷_, _++_, map, append-nil, List·Memᴰ as Mem, List·Memᴰ·head as here, List·Memᴰ·tail as there, List·Memᴰ·not-nil}
 use lib.ListN.{length, getD, length-append, length-map}
 use lib.Dec.{eqb, ltb}
 use borrow.Author.Tests.{eqb-true, eqb-false, eq-eqb, ltb-true, not-true}
@@ -19,90 +18,23 @@ use Rattle.scheme.specs.Res.{Res, ok}
 use Rattle.scheme.specs.Bag.{Past, rawCell}
 use Rattle.scheme.specs.Crc.{crcOf}
 use Rattle.scheme.specs.Layout.{genericTag}
-use Rattle.scheme.specs.Order.{kidsOf, order, orderOf, reached}
 use Rattle.scheme.specs.Write.{placeOf, bagCell, Leveled, leveled, bagCells, padded, allBe, cellBytes, allBytes, entries, body, bagBytes}
-use Rattle.laws.specs.Distinct.{Nodup}
-use Rattle.laws.specs.Kahn.{Good, Later, kahn}
-use Rattle.laws.specs.Reach.{Reach, itself, via, Listing, graph, reached-sound, reached-all}
-use Rattle.laws.specs.Round.{plainCells, index-at, index-later}
-use Rattle.laws.specs.Meaning.{Linked}
+use Rattle.laws.specs.Reach.{via, Listing, reach-held}
+use Rattle.laws.specs.Round.{plainCells, index-at}
+use Rattle.laws.specs.Unique.{Low}
+use Rattle.laws.specs.Lists.{mem-map, mem-at}
+use Rattle.laws.specs.Meaning.{forest-map, low-levels, linked-levels}
 use Rattle.laws.specs.Fields.{At, at-start, at-same, width-holds, width-le, width-most}
+use Rattle.laws.specs.WrittenBack.{index-lt, bag-linked}
 use Rattle.laws.specs.CellLaws.{cell-path}
 use Rattle.laws.specs.BagRound.{length-all, Written}
-use Rattle.laws.specs.CellRound.{cell-back as stored-back}
-use Rattle.laws.specs.CellRound.{Fit, length-mark, allBelow, allBelow-true, last-mem}
-use Rattle.theorems.specs.MeaningLaws.{Low, mem-at, forest-map, low-levels, linked-levels}
-use Rattle.theorems.specs.Grammar.{Small, Admissible, RawCell, RawCellOk, cellOf, refsDescriptor, bitsDescriptor, cellText, cellsText, Head, byte4, unsigned, serialized}
+use Rattle.laws.specs.CellRound.{cell-back as stored-back, Fit, length-padded, last-mark, allBelow, allBelow-true, last-mem}
+use Rattle.laws.specs.Accept.{Small}
+use Rattle.theorems.specs.Grammar.{Admissible, RawCell, RawCellOk, cellOf, refsDescriptor, bitsDescriptor, cellText, cellsText, Head, byte4, unsigned, serialized}
 use Rattle.theorems.specs.GrammarBack.{cell-back}
 use Rattle.theorems.specs.Written.{rawOf, listed, starts, headFor}
 
--- ---- the listing
-
-pub reach-held : (s : List Cell) → Low s → (root : ℕ) → root < length s → {c : ℕ} → Reach (kidsOf s) root c → c < length s
-reach-held s S root h (itself e) = omega arith
-reach-held s S root h (via {p} {c} r k) = let g = reach-held s S root h r in omega (arith, S p g c k)
-
-pub listing : (s : List Cell) → Low s → (root : ℕ) → root < length s → Listing s root (orderOf s root)
-unfolding orderOf
-listing s S root h = record {
-  first = first s h;
-  once = W .once;
-  sound = λ x m. reached-sound (kidsOf s) root low x (W .inside x m);
-  complete = λ x r. complete x (W .complete x (reached-all (kidsOf s) root low x r));
-  later = W .later;
-}
-  where
-    low : (p c : ℕ) → Reach (kidsOf s) root p → Mem c (kidsOf s p) → c < p
-    low p c r k = S p (reach-held s S root h r) c k
-
-    W : Good (kidsOf s) (reached (kidsOf s) root) [] (orderOf s root)
-    W = kahn (kidsOf s) (reached (kidsOf s) root) root (graph (kidsOf s) root low) (length s) h
-
-    complete : (x : ℕ) → Mem x [] ⊎ Mem x (orderOf s root) → Mem x (orderOf s root)
-    complete x (inl m) = absurd (List·Memᴰ·not-nil m)
-    complete x (inr m) = m
-
-    first : (t : List Cell) → root < length t → (rest : List ℕ) × (order (kidsOf t) (length t) root ≡ root ∷ rest)
-    first [] h = absurd (not-suc-le-zero h)
-    first (c ∷ cs) h = (_, refl)
-
-pub index-lt : (x : ℕ) (l : List ℕ) → Mem x l → placeOf x l < length l
-index-lt x (y ∷ ys) m = go (eqb x y) refl m (index-lt x ys)
-  where
-    go : (b : Bool) → eqb x y ≡ b → Mem x (y ∷ ys) → (Mem x ys → placeOf x ys < length ys) → cond b 0 (suc (placeOf x ys)) < suc (length ys)
-    go true e m ih = omega arith
-    go false e (here q) ih = absurd (eqb-false x y e q)
-    go false e (there m) ih = omega (arith, ih m)
-
-pub mem-map {ℓ κ} : {A : Type ℓ} {B : Type κ} (f : A → B) (l : List A) (y : B) → Mem y (map f l) → (x : A) × Mem x l × (y ≡ f x)
-mem-map f (x ∷ xs) y (here e) = (x, here refl, e)
-mem-map f (x ∷ xs) y (there m) = let r = mem-map f xs y m in (r .0, there (r .1), r .2)
-
--- references of the listed cells go to later places
-pub bag-linked : (s : List Cell) (pre suf out : List ℕ) → out ≡ pre ++ suf → Nodup out → Later (kidsOf s) suf → Linked (length pre) (map (bagCell s out) suf)
-bag-linked s pre [] out e n later = tt
-bag-linked s pre (x ∷ suf) out e n later =
-    let len : length (pre ++ x ∷ []) ≡ suc (length pre) = omega (arith, length-append pre (x ∷ [])) in
-    (refs, rw len at (bag-linked s (pre ++ x ∷ []) suf out (e ∙ sym (append-assoc pre (x ∷ []) suf)) n (later .1)))
-  where
-    refs : (r : ℕ) → Mem r (map (λ (r : ℕ). placeOf r out) ((at s x) .refs)) → (length pre < r) × (r < suc (length pre) + length (map (bagCell s out) suf))
-    refs r m =
-        let t = mem-map (λ (r : ℕ). placeOf r out) ((at s x) .refs) r m in
-        let k = later .0 (t .0) (t .1) in
-        let a = index-later pre x suf out e n (t .0) k in
-        let b = index-lt (t .0) suf k in
-        let c = t .2 in
-        let d = length-map suf (bagCell s out) in
-        (omega arith, omega arith)
-
 -- ---- the bytes
-
-length-padded : (c : Cell) → Fit c → length (padded c) ≡ bytesFor (c .len)
-length-padded c F = go (eqb (c .len % 8) 0)
-  where
-    go : (b : Bool) → length (cond b (c .bytes) (mark (2 ^ (7 - c .len % 8)) (c .bytes))) ≡ bytesFor (c .len)
-    go true = F .many
-    go false = length-mark (2 ^ (7 - c .len % 8)) (c .bytes) ∙ F .many
 
 -- d2 of a stored cell
 d2-is : (c : Cell) → Fit c → bitsDescriptor (rawOf c) ≡ c .len / 8 + bytesFor (c .len)
@@ -186,12 +118,6 @@ mark-fact x j hx hj p q =
     let u : (ltb (x + 2 ^ (7 - j)) 256 && not (eqb (x + 2 ^ (7 - j)) 0)) ≡ true = rw (p, q) at t in
     (ltb-true _ _ (and-left (ltb (x + 2 ^ (7 - j)) 256) _ u), not-true _ (and-right (ltb (x + 2 ^ (7 - j)) 256) _ u))
 
-last-mark : (m : ℕ) (l : List ℕ) → 0 < length l → lastOf (mark m l) ≡ lastOf l + m
-last-mark m [] h = absurd (not-suc-le-zero h)
-last-mark m (x ∷ []) h = refl
-last-mark m (x ∷ y ∷ []) h = refl
-last-mark m (x ∷ y ∷ z ∷ zs) h = last-mark m (y ∷ z ∷ zs) (omega arith)
-
 mark-small : (m : ℕ) (l : List ℕ) → Small l → lastOf l + m < 256 → Small (mark m l)
 mark-small m [] S h x k = S x k
 mark-small m (y ∷ []) S h x (here e) = rw e h
@@ -262,9 +188,6 @@ cell-again c F =
     cell-path _ c refl (ap (λ (d : Cell). d .len) e) (ap (λ (d : Cell). d .bytes) e) refl
 
 -- ---- the listed cells
-
-pub fit-bag : (s : List Cell) (out : List ℕ) (x : ℕ) → Fit (at s x) → Fit (bagCell s out x)
-fit-bag s out x F = fit-with (at s x) _ (rw (length-map ((at s x) .refs) (λ (r : ℕ). placeOf r out)) (F .arity)) F
 
 pub cells-again : (s : List Cell) (out l : List ℕ) → ((x : ℕ) → Mem x l → Fit (bagCell s out x)) → map cellOf (map (rawAt s out) l) ≡ map (bagCell s out) l
 cells-again s out [] F = refl

@@ -81,10 +81,6 @@ list-end s n m p h g = let e : p ≡ m = omega arith in rw e (slice-empty (n + m
 pub product-small : (size k : ℕ) → size ≤ 3 → k ≤ 4 → k * size ≤ 12
 product-small size k h g = mul-le-mul g h
 
-pub size-bound : (t : List ℕ) (size x : ℕ) → RecordOk t x → size ≤ 3 → cellSize t size x ≤ 142
-unfolding cellSize
-size-bound t size x ok h = omega (arith, product-small size (getD t (x * 7 + 2) 0) h (ok .few), ok .bits)
-
 -- ---- references
 
 pub refs-next : (t s : List ℕ) (n size x j r : ℕ) → RecordOk t x → j < getD t (x * 7 + 2) 0 → r ≡ getD t (x * 7 + (3 + j)) 0

@@ -31,8 +31,6 @@ le-turn l at i k x X h p =
     rw q (rw e at p)
 
 -- ---- the fewest bytes
-pub width-0 : width 8 0 ≡ 0
-width-0 = refl
 
 module _ (n : ℕ) where
   pub width-1 : 0 < n → n < 256 → width 8 n ≡ 1

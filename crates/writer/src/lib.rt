@@ -191,7 +191,8 @@ fn put_index(
     requires { ⌜ off ≤ 3 ⌝ }
     requires { ⌜ ((x : ℕ) → Mem x (slice n (n + m) (now scratch)) → x < n) ⌝ }
     requires { ⌜ at + length (indexOf (now table) size off 0 (slice n (n + m) (now scratch))) ≤ length (now out) ⌝ }
-    ensures { λ r. ⌜ (r ≡ at + length (indexOf (now (table .entry)) size off 0 (slice n (n + m) (now (scratch .entry))))) × (now (out .exit) ≡ puts (now (out .entry)) at (indexOf (now (table .entry)) size off 0 (slice n (n + m) (now (scratch .entry))))) ⌝ }
+    ensures { λ r. ⌜ (r ≡ at + length (indexOf (now (table .entry)) size off 0 (slice n (n + m) (now (scratch .entry)))))
+        × (now (out .exit) ≡ puts (now (out .entry)) at (indexOf (now (table .entry)) size off 0 (slice n (n + m) (now (scratch .entry))))) ⌝ }
 {
     let mut p = 0;
     let mut start = 0;
@@ -221,7 +222,8 @@ fn put_refs(
     requires { ⌜ n ≤ 4096 ⌝ }
     requires { ⌜ 3 * n ≤ length (now scratch) ⌝ }
     requires { ⌜ at + length (allBe size (placesOf (now scratch) n (refsAt (now table) x))) ≤ length (now out) ⌝ }
-    ensures { λ r. ⌜ (r ≡ at + length (allBe size (placesOf (now (scratch .entry)) n (refsAt (now (table .entry)) x)))) × (now (out .exit) ≡ puts (now (out .entry)) at (allBe size (placesOf (now (scratch .entry)) n (refsAt (now (table .entry)) x)))) ⌝ }
+    ensures { λ r. ⌜ (r ≡ at + length (allBe size (placesOf (now (scratch .entry)) n (refsAt (now (table .entry)) x))))
+        × (now (out .exit) ≡ puts (now (out .entry)) at (allBe size (placesOf (now (scratch .entry)) n (refsAt (now (table .entry)) x)))) ⌝ }
 {
     let k = field(table, x, REFS_COUNT);
     let mut j = 0;
@@ -239,7 +241,8 @@ fn put_refs(
 fn put_data(table: &[u32], bytes: &[u8], x: usize, out: &mut [u8], at: usize) -> usize
     requires { ⌜ CellOk (now table) (now bytes) x ⌝ }
     requires { ⌜ at + length (padded (cellAt (now table) (now bytes) x)) ≤ length (now out) ⌝ }
-    ensures { λ r. ⌜ (r ≡ at + length (padded (cellAt (now (table .entry)) (now (bytes .entry)) x))) × (now (out .exit) ≡ puts (now (out .entry)) at (padded (cellAt (now (table .entry)) (now (bytes .entry)) x))) ⌝ }
+    ensures { λ r. ⌜ (r ≡ at + length (padded (cellAt (now (table .entry)) (now (bytes .entry)) x)))
+        × (now (out .exit) ≡ puts (now (out .entry)) at (padded (cellAt (now (table .entry)) (now (bytes .entry)) x))) ⌝ }
 {
     let len = field(table, x, BITS_LEN);
     let from = x * DATA_LEN;
@@ -269,7 +272,8 @@ fn put_cell(
     requires { ⌜ n ≤ 4096 ⌝ }
     requires { ⌜ 3 * n ≤ length (now scratch) ⌝ }
     requires { ⌜ at + length (cellBytes size (placedCell (now table) (now bytes) (now scratch) n x)) ≤ length (now out) ⌝ }
-    ensures { λ r. ⌜ (r ≡ at + length (cellBytes size (placedCell (now (table .entry)) (now (bytes .entry)) (now (scratch .entry)) n x))) × (now (out .exit) ≡ puts (now (out .entry)) at (cellBytes size (placedCell (now (table .entry)) (now (bytes .entry)) (now (scratch .entry)) n x))) ⌝ }
+    ensures { λ r. ⌜ (r ≡ at + length (cellBytes size (placedCell (now (table .entry)) (now (bytes .entry)) (now (scratch .entry)) n x)))
+        × (now (out .exit) ≡ puts (now (out .entry)) at (cellBytes size (placedCell (now (table .entry)) (now (bytes .entry)) (now (scratch .entry)) n x))) ⌝ }
 {
     let flag = field(table, x, EXOTIC);
     let len = field(table, x, BITS_LEN);
@@ -297,7 +301,8 @@ fn put_cells(
     requires { ⌜ 3 * n ≤ length (now scratch) ⌝ }
     requires { ⌜ ((x : ℕ) → Mem x (slice n (n + m) (now scratch)) → x < n) ⌝ }
     requires { ⌜ at + length (allBytes size (placedCells (now table) (now bytes) (now scratch) n (slice n (n + m) (now scratch)))) ≤ length (now out) ⌝ }
-    ensures { λ r. ⌜ (r ≡ at + length (allBytes size (placedCells (now (table .entry)) (now (bytes .entry)) (now (scratch .entry)) n (slice n (n + m) (now (scratch .entry)))))) × (now (out .exit) ≡ puts (now (out .entry)) at (allBytes size (placedCells (now (table .entry)) (now (bytes .entry)) (now (scratch .entry)) n (slice n (n + m) (now (scratch .entry)))))) ⌝ }
+    ensures { λ r. ⌜ (r ≡ at + length (allBytes size (placedCells (now (table .entry)) (now (bytes .entry)) (now (scratch .entry)) n (slice n (n + m) (now (scratch .entry))))))
+        × (now (out .exit) ≡ puts (now (out .entry)) at (allBytes size (placedCells (now (table .entry)) (now (bytes .entry)) (now (scratch .entry)) n (slice n (n + m) (now (scratch .entry)))))) ⌝ }
 {
     let mut p = 0;
     let mut to = at;
@@ -390,7 +395,8 @@ fn index_if(
     requires { ⌜ off ≤ 3 ⌝ }
     requires { ⌜ ((x : ℕ) → Mem x (slice n (n + m) (now scratch)) → x < n) ⌝ }
     requires { ⌜ at + length (indexIf «has_idx» (now table) size off (slice n (n + m) (now scratch))) ≤ length (now out) ⌝ }
-    ensures { λ r. ⌜ (r ≡ at + length (indexIf «has_idx» (now (table .entry)) size off (slice n (n + m) (now (scratch .entry))))) × (now (out .exit) ≡ puts (now (out .entry)) at (indexIf «has_idx» (now (table .entry)) size off (slice n (n + m) (now (scratch .entry))))) ⌝ }
+    ensures { λ r. ⌜ (r ≡ at + length (indexIf «has_idx» (now (table .entry)) size off (slice n (n + m) (now (scratch .entry)))))
+        × (now (out .exit) ≡ puts (now (out .entry)) at (indexIf «has_idx» (now (table .entry)) size off (slice n (n + m) (now (scratch .entry))))) ⌝ }
 {
     if has_idx {
         return put_index(table, n, m, size, off, scratch, out, at);
@@ -428,7 +434,8 @@ fn put_body(
     requires { ⌜ ((x : ℕ) → Mem x (slice n (n + m) (now scratch)) → x < n) ⌝ }
     requires { ⌜ total ≡ sizes (now table) size (slice n (n + m) (now scratch)) ⌝ }
     requires { ⌜ length (bodyOf «has_idx» «has_crc32c» (now table) (now bytes) (now scratch) n m size off) ≤ length (now out) ⌝ }
-    ensures { λ r. ⌜ (r ≡ length (bodyOf «has_idx» «has_crc32c» (now (table .entry)) (now (bytes .entry)) (now (scratch .entry)) n m size off)) × (now (out .exit) ≡ puts (now (out .entry)) 0 (bodyOf «has_idx» «has_crc32c» (now (table .entry)) (now (bytes .entry)) (now (scratch .entry)) n m size off)) ⌝ }
+    ensures { λ r. ⌜ (r ≡ length (bodyOf «has_idx» «has_crc32c» (now (table .entry)) (now (bytes .entry)) (now (scratch .entry)) n m size off))
+        × (now (out .exit) ≡ puts (now (out .entry)) 0 (bodyOf «has_idx» «has_crc32c» (now (table .entry)) (now (bytes .entry)) (now (scratch .entry)) n m size off)) ⌝ }
 {
     let flags = flags_of(has_idx, has_crc32c, size);
     let a = put_header(out, flags, m, size, off, total);
@@ -455,7 +462,8 @@ fn put_bag(
     requires { ⌜ ((x : ℕ) → Mem x (slice n (n + m) (now scratch)) → x < n) ⌝ }
     requires { ⌜ total ≡ sizes (now table) size (slice n (n + m) (now scratch)) ⌝ }
     requires { ⌜ length (sealedOf «has_crc32c» (bodyOf «has_idx» «has_crc32c» (now table) (now bytes) (now scratch) n m size off)) ≤ length (now out) ⌝ }
-    ensures { λ _. ⌜ now (out .exit) ≡ puts (now (out .entry)) 0 (sealedOf «has_crc32c» (bodyOf «has_idx» «has_crc32c» (now (table .entry)) (now (bytes .entry)) (now (scratch .entry)) n m size off)) ⌝ }
+    ensures { λ _. ⌜ now (out .exit) ≡ puts (now (out .entry)) 0
+        (sealedOf «has_crc32c» (bodyOf «has_idx» «has_crc32c» (now (table .entry)) (now (bytes .entry)) (now (scratch .entry)) n m size off)) ⌝ }
 {
     let at = put_body(
         has_idx,
@@ -537,7 +545,8 @@ pub fn serialize(
     scratch: &mut [u32],
     out: &mut [u8],
 ) -> Wrote
-    ensures { λ r. ⌜ Serialized args count (now (table .entry)) (now (bytes .entry)) n (now (scratch .entry)) (now (out .entry)) r (now (scratch .exit)) (now (out .exit)) ⌝ }
+    ensures { λ r. ⌜ Serialized args count (now (table .entry)) (now (bytes .entry)) n (now (scratch .entry)) (now (out .entry))
+        r (now (scratch .exit)) (now (out .exit)) ⌝ }
 {
     if !is_sound(count, table, bytes) {
         zero_numbers(scratch);

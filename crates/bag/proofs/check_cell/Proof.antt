@@ -5,11 +5,9 @@ use mathlib.Core.List.{List}
 use native.Mathlib.Omega.{arith}
 use borrow.Author.Needs.{needs}
 use denote.Ref.{now}
-use Rattle.scheme.specs.Res.{ok, bad}
 use Rattle.scheme.specs.Cells.{Cell}
 use Rattle.scheme.specs.Bag.{refsOk}
 use Rattle.raw_cell.specs.Paper.{paperOf}
-use Rattle.bag.specs.Places.{cellAt}
 use Rattle.bag.specs.Scan.{cell-is}
 use Rattle.bag.specs.Frames.{FrameIs, frame-bad, frame-ok}
 use Rattle.bag.proofs.check_cell.Statement.{statement}

@@ -1,6 +1,6 @@
 -- `bag::check_extra` meets its contract. Each return rewrites with the tests. Assumes nothing.
 use borrow.Author.Needs.{needs}
-use borrow.Author.Tests.{not-true, not-false, lt-leb, le-leb}
+use borrow.Author.Tests.{not-false, lt-leb, le-leb}
 use Rattle.bag.proofs.check_extra.Statement.{statement}
 use Rattle.bag.proofs.check_extra.Tie as tie
 

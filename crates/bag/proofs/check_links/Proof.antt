@@ -1,5 +1,5 @@
 -- `bag::check_links` meets its contract. The invariant: the cells that are left answer as all do. Assumes nothing.
-use Prim.Native.Nat.{ℕ, suc, _≤_, _<_, _-_}
+use Prim.Native.Nat.{suc, _≤_, _<_, _-_}
 use mathlib.Core.Path.{_≡_, _∙_, sym, refl, ap}
 use native.Mathlib.Omega.{arith}
 use borrow.Author.Needs.{needs}

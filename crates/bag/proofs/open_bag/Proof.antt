@@ -1,5 +1,4 @@
 -- `bag::open_bag` meets its contract: the header, then the cells. Assumes nothing.
-use Prim.Native.Nat.{_≤_}
 use mathlib.Core.Path.{_≡_, _∙_, sym, ap}
 use native.Mathlib.Omega.{arith}
 use borrow.Author.Needs.{needs}

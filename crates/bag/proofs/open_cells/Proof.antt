@@ -1,5 +1,5 @@
 -- `bag::open_cells` meets its contract, by one law for each end of the scan. Assumes nothing.
-use mathlib.Core.Path.{_≡_, _∙_, sym, ap}
+use mathlib.Core.Path.{_∙_, sym, ap}
 use native.Mathlib.Omega.{arith}
 use borrow.Author.Needs.{needs}
 use Rattle.bits.specs.Paper.{skipPaper}

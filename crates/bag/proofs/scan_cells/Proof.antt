@@ -1,15 +1,12 @@
 -- `bag::scan_cells` meets its contract. The invariant: the rest of the scan, from here, ends as the whole does and leaves its places. Assumes nothing.
-use Prim.Native.Nat.{ℕ, suc, _≤_, _<_, _+_, _-_, _*_}
+use Prim.Native.Nat.{suc, _≤_, _+_, _-_, _*_}
 use mathlib.Core.Path.{_≡_, _∙_, sym, refl, ap}
-use mathlib.Core.List.{List}
 use native.Mathlib.Omega.{arith}
 use native.Mathlib.Nat.{sub-zero}
 use borrow.Author.Needs.{needs}
-use lib.ListN.{length, getD, set, length-set}
+use lib.ListN.{length, length-set}
 use denote.Ref.{now}
-use Rattle.scheme.specs.Res.{ok, bad}
 use Rattle.laws.specs.Puts.{puts, puts-nil}
-use Rattle.raw_cell.specs.Frame.{frame}
 use Rattle.raw_cell.specs.Paper.{paperOf}
 use Rattle.bag.specs.Places.{places, scanned}
 use Rattle.bag.specs.Scan.{scan-cell, scan-refused, scan-none, places-none, marks-cell, marks-refused}

@@ -1,8 +1,6 @@
 -- `memory::put_byte` meets its contract. Assumes nothing.
-use Prim.Native.Nat.{ℕ, _≤_, _<_, _-_, _+_, _*_, _/_, _%_}
-use mathlib.Core.Path.{_≡_, refl, ap, sym, _∙_}
-use mathlib.Core.List.{List, [], _∷_, _++_, List·Memᴰ as Mem}
-use native.Mathlib.Omega.{arith}
+use Prim.Native.Nat.{_-_}
+use mathlib.Core.Path.{refl}
 use Rattle.laws.specs.Puts.{puts-one}
 use borrow.Author.Needs.{needs}
 use Rattle.memory.proofs.put_byte.Statement.{statement}

@@ -1,22 +1,13 @@
 -- `memory::put_bytes` meets its contract: the rest is left. Assumes nothing.
-use Prim.Native.Nat.{ℕ, _≤_, _<_, _-_, _+_, _*_, _/_, _%_}
-use mathlib.Core.Path.{_≡_, refl, ap, sym, _∙_}
-use mathlib.Core.List.{List, [], _∷_, _++_, List·Memᴰ as Mem}
+use Prim.Native.Nat.{_≤_, _-_, _+_}
+use mathlib.Core.Path.{_≡_, refl, sym, _∙_}
 use native.Mathlib.Omega.{arith}
-use borrow.Author.Needs.{needs}
-use lib.ListN.{length, drop, getD, set, length-set}
-use lib.Seq.{drop-cons}
-use native.Mathlib.Nat.{add-zero, add-assoc}
-use native.Mathlib.Numerals.{add-one}
-use Rattle.laws.specs.Puts.{puts}
+use lib.ListN.{length, drop, length-set}
+use native.Mathlib.Nat.{add-zero}
+use Rattle.laws.specs.Puts.{puts, puts-nil, puts-turn}
 use Rattle.laws.specs.Lists.{drop-all}
-use Rattle.laws.specs.Puts.{puts-nil}
 use Rattle.memory.proofs.put_bytes.Statement.{statement}
 use Rattle.memory.proofs.put_bytes.Tie as tie
-
-turn : (src out : List ℕ) (at i : ℕ) (X : List ℕ) → i < length src → puts out (at + i) (drop i src) ≡ X → puts (set out (at + i) (getD src i 0)) (at + (i + 1)) (drop (i + 1) src) ≡ X
-unfolding puts
-turn src out at i X h p = rw (← add-assoc at i 1) (rw (add-one i) (rw (drop-cons src i 0 h) at p))
 
 abbrev Inv-loop : tie.InvT-loop
 Inv-loop src out₀ at i₀ out i = (i ≤ length src) × (length out ≡ length out₀) × (puts out (at + i) (drop i src) ≡ puts out₀ at src)
@@ -46,7 +37,7 @@ loop-again : tie.Need-loop-again Inv-loop μ-loop
 loop-again c =
     let a = c .before .before .before .args in
     let l = c .before .before .loop in
-    (omega arith, simp length-set (l .inv .1), turn (a .src .now) (l .out) (a .at) (l .i) (puts (a .out .now) (a .at) (a .src .now)) (omega arith) (l .inv .2))
+    (omega arith, simp length-set (l .inv .1), puts-turn (a .src .now) (l .out) (a .at) (l .i) (puts (a .out .now) (a .at) (a .src .now)) (omega arith) (l .inv .2))
 
 add-result : tie.Need-add-result Inv-loop μ-loop
 add-result c = omega arith

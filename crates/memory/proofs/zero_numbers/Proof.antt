@@ -1,12 +1,11 @@
 -- `memory::zero_numbers` meets its contract. The loop's invariant: the first k are 0. Assumes nothing.
-use Prim.Native.Nat.{ℕ, _≤_, _<_, _+_, _-_, _*_, _/_}
-use mathlib.Core.Path.{_≡_, refl, sym}
+use Prim.Native.Nat.{_≤_, _+_, _-_}
+use mathlib.Core.Path.{_≡_, refl}
 use native.Mathlib.Omega.{arith}
 use mathlib.Core.List.{_++_}
 use lib.ListN.{length, drop, replicate, length-set}
 use Rattle.memory.proofs.Fill.{fill-step, fill-all}
 use borrow.Author.Fill.{fill-none}
-use borrow.Author.Needs.{needs}
 use Rattle.memory.proofs.zero_numbers.Statement.{statement}
 use Rattle.memory.proofs.zero_numbers.Tie as tie
 use Rattle.memory.proofs.zero_numbers.Reads as reads

@@ -1,11 +1,11 @@
 -- `reader::place_cell` meets its contract: what is handed to the store is the cell that stands there, with store numbers. Assumes nothing.
 use Prim.Native.Nat.{ℕ, _<_}
 use mathlib.Core.Path.{_≡_, _∙_, sym, refl, ap}
-use mathlib.Core.List.{List, []}
+use mathlib.Core.List.{[]}
 use native.Mathlib.Omega.{arith}
 use borrow.Author.Needs.{needs}
 use denote.Ref.{now}
-use lib.ListN.{length, getD, take}
+use lib.ListN.{getD}
 use lib.Seq.{length-take-le}
 use Rattle.raw_cell.specs.Paper.{paperOf}
 use Rattle.bag.specs.Frames.{FrameIs, frame-bad, frame-ok}

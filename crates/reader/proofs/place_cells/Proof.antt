@@ -1,10 +1,10 @@
 -- `reader::place_cells` meets its contract. The invariant: the cells from place i on are in the memory, and their numbers in the scratch. Assumes nothing.
-use Prim.Native.Nat.{ℕ, suc, _+_, _-_, _*_, _≤_, _<_}
-use mathlib.Core.Path.{_≡_, _∙_, sym, refl, ap}
+use Prim.Native.Nat.{ℕ, suc, _-_, _<_}
+use mathlib.Core.Path.{_≡_}
 use native.Mathlib.Omega.{arith}
 use borrow.Author.Needs.{needs}
 use denote.Ref.{now}
-use lib.ListN.{length, getD, take, drop}
+use lib.ListN.{getD, take, drop}
 use Rattle.scheme.specs.Bag.{load}
 use Rattle.scheme.specs.Memory.{capacity, cellsOf}
 use Rattle.bag.specs.Places.{cellsAt}

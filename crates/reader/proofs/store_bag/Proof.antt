@@ -1,5 +1,4 @@
 -- `reader::store_bag` meets its contract: all cells are placed, or what was placed is taken back. Assumes nothing.
-use mathlib.Core.Path.{_≡_}
 use native.Mathlib.Omega.{arith}
 use denote.Ref.{now}
 use Rattle.reader.specs.Steps.{over-more}

@@ -7,8 +7,7 @@ use lib.ListN.{getD, drop}
 use borrow.Author.Needs.{needs}
 use Rattle.scheme.specs.Memory.{cellAt}
 use Rattle.laws.specs.Records.{refsAt, RecordOk}
-use Rattle.text.proofs.Texts.{text-leaf, size-eq, size-leaf, own-le, node-length, node-put, size-more, size-last, text-last, first-le, more-length, more-put}
-use Rattle.text.proofs.Texts.{size-le, sizes-le, cells-down}
+use Rattle.text.proofs.Texts.{text-leaf, size-eq, size-leaf, own-le, node-length, node-put, size-more, size-last, text-last, first-le, more-length, more-put, size-le, sizes-le, cells-down}
 use Prim.Native.Nat.{ℕ, _<_, _≤_, _+_, _*_, _-_}
 use borrow.Fn.Kinds.{In}
 use borrow.Fn.PlainCycle.{Measures, is, falls, and}

@@ -1,7 +1,6 @@
 -- `try_text::add_twice` is safe and ends: the turns count up to 16, and lent slices keep their lengths. Assumes nothing.
 use Prim.Native.Nat.{_≤_, _-_}
-use mathlib.Core.Path.{_≡_, _∙_}
-use native.Mathlib.Omega.{arith}
+use mathlib.Core.Path.{_≡_}
 use lib.ListN.{length}
 use borrow.Author.Needs.{needs}
 use Rattle.try_text.proofs.add_twice.Statement.{statement}

@@ -6,8 +6,7 @@ use native.Mathlib.Omega.{arith}
 use native.Mathlib.Nat.{add-zero}
 use lib.ListN.{length}
 use lib.Seq.{slice}
-use Rattle.laws.specs.Puts.{puts}
-use Rattle.laws.specs.Puts.{puts-nil}
+use Rattle.laws.specs.Puts.{puts, puts-nil}
 use Rattle.writer.proofs.Seal.{index-yes, index-no}
 use borrow.Author.Needs.{needs}
 use Rattle.writer.proofs.index_if.Statement.{statement}

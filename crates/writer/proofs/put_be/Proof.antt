@@ -5,9 +5,8 @@ use native.Mathlib.Omega.{arith}
 use lib.ListN.{length, length-set}
 use borrow.Author.Needs.{needs}
 use Rattle.scheme.specs.Bytes.{be}
-use Rattle.laws.specs.Puts.{puts}
+use Rattle.laws.specs.Puts.{puts, puts-nil}
 use Rattle.writer.proofs.Numbers.{be-turn}
-use Rattle.laws.specs.Puts.{puts-nil}
 use Rattle.writer.proofs.put_be.Statement.{statement}
 use Rattle.writer.proofs.put_be.Tie as tie
 

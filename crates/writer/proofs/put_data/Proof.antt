@@ -4,8 +4,7 @@ use mathlib.Core.Path.{refl, ap, sym, _∙_}
 use mathlib.Core.List.{List}
 use native.Mathlib.Omega.{arith}
 use lib.ListN.{length, take, drop, length-append}
-use Rattle.laws.specs.Puts.{puts}
-use Rattle.laws.specs.Puts.{puts-then}
+use Rattle.laws.specs.Puts.{puts, puts-then}
 use Rattle.writer.proofs.Data.{put-whole, put-part, put-fits}
 use borrow.Author.Needs.{needs}
 use Rattle.writer.proofs.put_data.Statement.{statement}
