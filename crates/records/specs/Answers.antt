@@ -1,10 +1,12 @@
 -- What reading and appending a record answer, and their numbers in the definitions. Assumes nothing.
-use Prim.Native.Nat.{ℕ}
-use mathlib.Core.Path.{_≡_, refl, sym, _∙_}
+use Prim.Native.Nat.{ℕ, _<_}
+use native.Mathlib.Omega.{arith}
+use mathlib.Core.Path.{_≡_, refl}
 use mathlib.Core.Bool.{Bool, true, false, cond}
 use lib.Dec.{ltb}
 use mathlib.Core.List.{List}
-use lib.ListN.{length, set}
+use lib.ListN.{length, getD}
+use borrow.Author.Tests.{ltb-true}
 use Rattle.scheme.specs.Res.{Res, bad, ok, then, check, refusal}
 use Rattle.scheme.specs.Refusals.{NOCELL, FULL}
 use Rattle.records.specs.declared.CellRecord.{CellRecord}
@@ -12,6 +14,8 @@ use Rattle.records.specs.declared.RecordRead.{RecordRead}
 use Rattle.records.specs.declared.RecordRead.the-variants as read
 use Rattle.records.specs.declared.RecordAdded.{RecordAdded}
 use Rattle.records.specs.declared.RecordAdded.the-variants as added
+use Rattle.records.specs.Record.{blank, lesserOf}
+use Rattle.records.specs.Laws.{lesser-le}
 
 -- the record r at number n, of which the first count are in use
 abbrev pub readOf : ℕ → ℕ → CellRecord → RecordRead
@@ -53,10 +57,15 @@ pub added-is : (stored : Bool) (count : ℕ) → addedPaper (addedOf stored coun
 added-is true count = refl
 added-is false count = refl
 
--- two outcomes that meet a contract are equal
-pub one-read : (n count : ℕ) (r : CellRecord) (a b : RecordRead) → a ≡ readOf n count r → b ≡ readOf n count r → a ≡ b
-one-read n count r a b p q = p ∙ sym q
-
-pub one-append : (ys : List CellRecord) (count : ℕ) (r : CellRecord) (a b : RecordAdded) (ys₁ ys₂ : List CellRecord) → (a ≡ addedOf (ltb count (length ys)) count) × (ys₁ ≡ set ys count r)
-    → (b ≡ addedOf (ltb count (length ys)) count) × (ys₂ ≡ set ys count r) → (a ≡ b) × (ys₁ ≡ ys₂)
-one-append ys count r a b ys₁ ys₂ p q = (p .0 ∙ sym (q .0), p .1 ∙ sym (q .1))
+-- a record that is read is held: it is below the count, and the table has it
+pub read-held : (ys : List CellRecord) (n count : ℕ) (r : CellRecord) → readOf n (lesserOf count (length ys)) (getD ys n blank) ≡ read.Record r
+    → (n < count) × (n < length ys) × (r ≡ getD ys n blank)
+read-held ys n count r = go (ltb n (lesserOf count (length ys))) refl
+  where
+    go : (b : Bool) → ltb n (lesserOf count (length ys)) ≡ b → cond b (read.Record (getD ys n blank)) (read.Refused (refusal NOCELL 0)) ≡ read.Record r
+        → (n < count) × (n < length ys) × (r ≡ getD ys n blank)
+    go true t e =
+        let h : n < lesserOf count (length ys) = ltb-true n (lesserOf count (length ys)) t in
+        let q : r ≡ getD ys n blank = cc in
+        (omega (arith, h, lesser-le count (length ys) .0), omega (arith, h, lesser-le count (length ys) .1), q)
+    go false t e = let z : _≡_ {A = ℕ} 0 1 = cc in absurd (omega arith)

@@ -1,3 +1,5 @@
 pub mod Record
+pub mod Laws
 pub mod Cells
 pub mod Answers
+pub mod Unique

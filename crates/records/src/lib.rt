@@ -2,7 +2,6 @@
 ghost use mathlib.Core.Path.{_≡_};
 ghost use Prim.Native.Nat.{_<_, _≤_, _+_, _*_};
 ghost use lib.Dec.{ltb};
-ghost use mathlib.Core.List.{[], _∷_};
 ghost use lib.ListN.{length, set, getD};
 ghost use Rattle.records.specs.Answers.{readOf, addedOf};
 ghost use Rattle.records.specs.Record.{blank, recordOf, putFlat, lesserOf, roomFor, exportRecs, importRecs};
@@ -41,8 +40,8 @@ pub fn record_count(table: &[CellRecord]) -> usize
     table.len()
 }
 
-// Interface between crates: one record, read.
-pub fn record_at(table: &[CellRecord], at: usize) -> CellRecord
+// One record, read.
+fn record_at(table: &[CellRecord], at: usize) -> CellRecord
     requires { ⌜ at < length (now table) ⌝ }
     ensures { λ r. ⌜ r ≡ getD (now (table .entry)) at blank ⌝ }
 {
@@ -70,8 +69,8 @@ pub fn store_record(table: &mut [CellRecord], at: usize, r: CellRecord) -> bool
     false
 }
 
-// Interface between crates: record n of the flat table, which has seven numbers a record, by value.
-pub fn record_of(flat: &[u32], n: usize) -> CellRecord
+// Record n of the flat table, which has seven numbers a record, by value.
+fn record_of(flat: &[u32], n: usize) -> CellRecord
     requires { ⌜ 7 * n + 7 ≤ length (now flat) ⌝ }
     ensures { λ r. ⌜ r ≡ recordOf (now (flat .entry)) n ⌝ }
 {
@@ -87,8 +86,8 @@ pub fn record_of(flat: &[u32], n: usize) -> CellRecord
     }
 }
 
-// Interface between crates: a record by value into the flat table.
-pub fn put_flat(flat: &mut [u32], n: usize, r: CellRecord)
+// A record by value into the flat table.
+fn put_flat(flat: &mut [u32], n: usize, r: CellRecord)
     requires { ⌜ 7 * n + 7 ≤ length (now flat) ⌝ }
     ensures { λ _. ⌜ now (flat .exit) ≡ putFlat (now (flat .entry)) n r ⌝ }
 {
@@ -118,7 +117,7 @@ fn room_for(numbers: usize, places: usize, n: usize) -> usize
     lesser(lesser(n, numbers / RECORD_LEN), places)
 }
 
-// The first records of the flat table, at most `n`, into a lent table of records.
+// The first records of the flat table, at most `n`, into a lent table of records. How many.
 pub fn export_records(flat: &[u32], n: usize, table: &mut [CellRecord]) -> usize
     ensures { λ r. ⌜ (r ≡ roomFor (length (now (flat .entry))) (length (now (table .entry))) n)
         × (now (table .exit) ≡ exportRecs (now (flat .entry)) (roomFor (length (now (flat .entry))) (length (now (table .entry))) n) (now (table .entry))) ⌝ }
@@ -172,11 +171,15 @@ fn read_answer(r: CellRecord, n: usize, count: usize) -> RecordRead
     })
 }
 
-// Record n of a table of which the first count are in use: NOCELL from count on. A place past the table reads as the blank record.
+// Record n of a table of which the first count are in use: NOCELL from count on, and past the end of the table.
 pub fn read_record(table: &[CellRecord], n: usize, count: usize) -> RecordRead
-    ensures { λ a. ⌜ a ≡ readOf n count (getD (now (table .entry)) n blank) ⌝ }
+    ensures { λ a. ⌜ a ≡ readOf n (lesserOf count (length (now (table .entry)))) (getD (now (table .entry)) n blank) ⌝ }
 {
-    read_answer(record_or(table, n, blank_record()), n, count)
+    read_answer(
+        record_or(table, n, blank_record()),
+        n,
+        lesser(count, table.len()),
+    )
 }
 
 fn added_answer(stored: bool, count: usize) -> RecordAdded
@@ -196,12 +199,4 @@ pub fn append_record(table: &mut [CellRecord], count: usize, r: CellRecord) -> R
     ensures { λ a. ⌜ (a ≡ addedOf (ltb count (length (now (table .entry)))) count) × (now (table .exit) ≡ set (now (table .entry)) count r) ⌝ }
 {
     added_answer(store_record(table, count, r), count)
-}
-
-// Record n of a table of two records.
-pub fn read_of_two(a: CellRecord, b: CellRecord, n: usize) -> RecordRead
-    ensures { λ r. ⌜ r ≡ readOf n 2 (getD (a ∷ b ∷ []) n blank) ⌝ }
-{
-    let table = [a, b];
-    read_record(&table, n, 2)
 }

@@ -1,11 +1,7 @@
-// Runs the store on real memory: clear, add (a new cell, a held one, each refusal), cell and its data; a batch; records read from the flat table and put back.
-ghost use Prim.Native.Nat.{_+_, _*_, _≤_};
-ghost use lib.ListN.{length};
+// Runs the store on real memory: clear, add (a new cell, a held one, each refusal), cell and its data; a batch.
 use add_many::AddedMany;
 use builder::CellBuilder;
 use memory::entry;
-use records::CellRecord;
-use records::RecordRead;
 use scheme::Refusal;
 use store::Added;
 use store::Asked;
@@ -243,40 +239,6 @@ fn try_many(count: &mut usize, table: &mut [u32], bytes: &mut [u8], heads: &[u32
     after(*count);
 }
 
-// Record n of two in a lent slice, shown and put into the flat table.
-fn try_record(out: &mut [u32], a: CellRecord, b: CellRecord, n: usize)
-    requires { ⌜ 7 * n + 7 ≤ length (now out) ⌝ }
-{
-    io::write_all(1, b"record ");
-    number(n);
-    io::write_all(1, b": ");
-    match records::read_of_two(a, b, n) {
-        RecordRead::Record(r) => {
-            number(r.len as usize);
-            io::write_all(1, b" bits\n");
-            records::put_flat(out, n, r);
-        }
-        RecordRead::Refused(r) => {
-            refused(r);
-            io::write_all(1, b"\n");
-            return;
-        }
-    }
-}
-
-fn try_records(table: &[u32], out: &mut [u32])
-    requires { ⌜ (14 ≤ length (now table)) × (21 ≤ length (now out)) ⌝ }
-{
-    let a = records::record_of(table, 0);
-    let b = records::record_of(table, 1);
-    try_record(out, a, b, 0);
-    try_record(out, a, b, 1);
-    try_record(out, a, b, 2);
-    io::write_all(1, b"flat again:");
-    show_numbers(out);
-    io::write_all(1, b"\n");
-}
-
 fn main() {
     let mut count = 9;
     let mut table = [3u32; 21];
@@ -337,6 +299,4 @@ fn main() {
             0,
         ],
     );
-    let mut out = [0u32; 21];
-    try_records(&table, &mut out);
 }

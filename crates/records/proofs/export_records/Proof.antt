@@ -51,7 +51,8 @@ use denote.Exit.{yes}
 use Rattle.records.specs.declared.CellRecord.{CellRecord}
 use Rattle.records.specs.Record.{blank, recordOf, roomFor, exportRecs}
 use Rattle.records.proofs.Slots.{start-fits}
-use Rattle.records.proofs.Export.{length-export, export-next, room-places, room-whole}
+use Rattle.records.specs.Laws.{length-export, room-places, room-whole}
+use Rattle.records.proofs.Export.{export-next}
 use Rattle.records.proofs.CellRecord as T
 use Rattle.records.proofs.CellRecord.Laws as T′
 use Rattle.records.proofs.room_for as room′

@@ -48,7 +48,8 @@ use denote.Triple.Walked.{says, Stays, stay-none-slice, stay-none, stay-slice, w
 use denote.Exit.{yes}
 use Rattle.records.specs.declared.CellRecord.{CellRecord}
 use Rattle.records.specs.Record.{blank, putFlat, roomFor, importRecs}
-use Rattle.records.proofs.Export.{length-import, import-next, room-places, room-whole}
+use Rattle.records.specs.Laws.{length-import, room-places, room-whole}
+use Rattle.records.proofs.Export.{import-next}
 use Rattle.records.proofs.CellRecord as T
 use Rattle.records.proofs.CellRecord.Laws as T′
 use Rattle.records.proofs.room_for as room′
