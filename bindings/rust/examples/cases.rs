@@ -4,7 +4,8 @@
 //!
 //! writes `vectors_data` and `replay_data` into the folder, each with `stdin` and `stdout`.
 //!
-//! `vectors_data`: replies, each after its 32-bit big-endian length; the lines are those of the program, one reply after the other.
+//! `vectors_data`: cases of a report, all numbers big-endian: u16 cells of the store; u32 length of the reply; the reply. There are
+//! two scratch entries for each cell of the store, and 16 root places. The lines are the report, one case after the other.
 //!
 //! `replay_data`: cases of a read, all numbers big-endian: u8 whole reading; u16 records of the store; u16 cells held before (the store
 //! is cleared, then cell i of 16 bits with the bytes of i is added, for i from 0 on); u16 scratch entries; u16 root places; u32
@@ -18,7 +19,7 @@ mod make;
 mod model;
 
 use make::*;
-use model::{add, crc32c, debug_text, printed, read, CellBuilder, Memory};
+use model::{add, crc32c, debug_text, read, reported, CellBuilder, Memory};
 use std::collections::{BTreeMap, HashMap};
 use std::{env, fs, io, path::Path};
 
@@ -278,7 +279,7 @@ fn and_more(bytes: &[u8], more: &[u8]) -> Vec<u8> {
     [bytes, more].concat()
 }
 
-// ---- The program's replies ----
+// ---- Reports ----
 
 /// A bag whose root unfolds to exactly `size` cells without data, in few cells: the tree is split as evenly as it goes.
 fn unfolding(size: usize) -> Bag {
@@ -426,6 +427,80 @@ fn program_replies() -> Vec<Vec<u8>> {
             all.push(bytes);
         }
     }
+    all
+}
+
+/// The cells of the program's store.
+const PROGRAM_CELLS: usize = 128;
+/// The greatest store that the program of cases lends.
+const MOST_CELLS: usize = 512;
+const ROOT_PLACES: usize = 16;
+
+struct Report {
+    cells: usize,
+    reply: Vec<u8>,
+}
+
+/// The case's lines.
+fn lines(case: &Report) -> Vec<u8> {
+    reported(&case.reply, case.cells, 2 * case.cells, ROOT_PLACES)
+}
+
+fn with_store(cells: usize, bag: &Bag) -> Report {
+    Report { cells, reply: bag.bytes() }
+}
+
+/// Reports with other stores than the program's.
+fn other_stores() -> Vec<Report> {
+    let mut all = Vec::new();
+    // No cells at all, and as few as the bag needs.
+    let none = Bag::new(&[], vec![]);
+    for bag in [&none, &none.clone().sized(0, 0), &single(Frame::of(&[], &[])), &diamond()] {
+        for cells in [0, 1, 3, 4] {
+            all.push(with_store(cells, bag));
+        }
+    }
+    for reply in [vec![], hex("68ff65f3"), vec![0; 32_769]] {
+        all.push(Report { cells: 0, reply });
+    }
+    // The chains of 255 and of 256 cells without data.
+    for (cells, bytes) in [(255, 776), (256, 1038)] {
+        let bag = chain(cells, 1, &[]);
+        assert_eq!(bag.bytes().len(), bytes);
+        for store in [cells - 1, cells, MOST_CELLS] {
+            all.push(with_store(store, &bag));
+        }
+    }
+    // A path of 256 references prints, one of 257 does not.
+    for cells in [257, 258] {
+        for store in [256, 257, 258, 300, MOST_CELLS] {
+            all.push(with_store(store, &chain(cells, 1, &[])));
+        }
+        // DEEP comes before BUDGET and before NOROOM.
+        all.push(with_store(300, &chain(cells, 2, &[])));
+        all.push(with_store(300, &chain(cells, 1, &[0xee; 20])));
+    }
+    // Roots that print among one that is too deep, in every order of three.
+    for roots in [[1, 0, 257], [1, 257, 0], [0, 1, 257], [0, 257, 1], [257, 0, 1], [257, 1, 0]] {
+        let mut deep = chain(258, 1, &[]);
+        deep.roots = roots.to_vec();
+        all.push(with_store(300, &together(&[diamond(), deep, single(Frame::of(&[1], &[]))])));
+    }
+    all.push(with_store(MOST_CELLS, &together(&[chain(257, 1, &[1]), unfolding(1001), chain(200, 1, &[2])]).with(HAS_CRC)));
+    // The greatest stores.
+    for cells in [299, 300, 301] {
+        all.push(with_store(300, &Bag::new(&[cells - 1], numbered(0, cells as usize))));
+    }
+    for cells in [511, 512, 513] {
+        all.push(with_store(MOST_CELLS, &Bag::new(&[0, cells - 1], numbered(0, cells as usize)).with(HAS_IDX)));
+    }
+    // As many roots as there are places, each with the longest text: the longest report.
+    let mut longest = text_of(8192);
+    longest.roots = vec![0; ROOT_PLACES];
+    all.push(with_store(PROGRAM_CELLS, &longest));
+    // The store of an earlier case may have held more.
+    all.push(with_store(4, &diamond()));
+    all.push(with_store(PROGRAM_CELLS, &diamond()));
     all
 }
 
@@ -634,14 +709,16 @@ fn main() -> io::Result<()> {
     let folder = env::args().nth(1).unwrap_or_else(|| ".".to_string());
     let folder = Path::new(&folder);
 
-    let replies = program_replies();
+    let mut cases: Vec<Report> = program_replies().into_iter().map(|reply| Report { cells: PROGRAM_CELLS, reply }).collect();
+    cases.extend(other_stores());
     let (mut stdin, mut stdout) = (Vec::new(), Vec::new());
-    for reply in &replies {
-        stdin.extend((reply.len() as u32).to_be_bytes());
-        stdin.extend(reply);
-        stdout.extend(printed(reply));
+    for case in &cases {
+        stdin.extend((case.cells as u16).to_be_bytes());
+        stdin.extend((case.reply.len() as u32).to_be_bytes());
+        stdin.extend(&case.reply);
+        stdout.extend(lines(case));
     }
-    save(&folder.join("vectors_data"), &stdin, &stdout, replies.len())?;
+    save(&folder.join("vectors_data"), &stdin, &stdout, cases.len())?;
 
     let cases = replay_cases();
     let (mut stdin, mut stdout) = (Vec::new(), Vec::new());

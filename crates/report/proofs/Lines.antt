@@ -11,11 +11,11 @@ use lib.ListN.{length, take, drop, getD, length-append}
 use lib.Seq.{take-at, take-suc}
 use Rattle.scheme.specs.declared.Refusal.{Refusal}
 use borrow.Author.Tests.{lt-leb, le-leb}
-use Rattle.scheme.specs.Res.{Res, bad, ok, refusal}
+use Rattle.scheme.specs.Res.{Res, bad, ok}
 use Rattle.scheme.specs.Cells.{Cell}
 use Rattle.scheme.specs.Memory.{sound, cellsOf}
 use Rattle.scheme.specs.Text.{digits, Page, page}
-use Rattle.scheme.specs.Calls.{Printed, WriteOut, printOut, printing}
+use Rattle.scheme.specs.Calls.{Printed, WriteOut, zeroed, printOut, printing}
 use Rattle.scheme.specs.Program.{spaced, refusedLine, pageLine, rootLines}
 use Rattle.laws.specs.Lent.{lent-cells}
 use Rattle.laws.specs.Puts.{puts, puts-then, puts-start}
@@ -23,9 +23,8 @@ use Rattle.text.specs.declared.Printed.{Printed as Out}
 use Rattle.text.specs.declared.Text.{Text}
 use Rattle.text.specs.declared.Text.the-variants.{Printed as Done, Refused as Left}
 use Rattle.text.specs.Paper.{paperOf, Prints}
-use Rattle.report.specs.declared.Reported.the-variants.{Written, Refused}
 use Rattle.report.specs.Lines.{okLine}
-use Rattle.report.specs.Paper.{telling, Tells}
+use Rattle.report.specs.Paper.{Tells}
 
 -- ---- the pieces of a line
 
@@ -63,7 +62,11 @@ refused-put r at a b e l₀ l₁ l₂ l₃ l₄ e₁ ea e₂ eb e₃ ee e₄ =
     let q₃ = puts-then l₀ l₂ l₃ at b (w ++ x) y q₂ b₃ e₃ in
     let e₅ : e ≡ at + length (w ++ x ++ y) = omega (arith, length-append (w ++ x) y, b₃, spaced-length (r .place) []) in
     let q₄ = puts-then l₀ l₃ l₄ at e (w ++ x ++ y) (10 ∷ []) q₃ e₅ e₄ in
-    q₄ ∙ ap (puts l₀ at) (append-assoc (w ++ x) y (10 ∷ []) ∙ append-assoc w x (y ++ 10 ∷ []) ∙ ap (λ (l : List ℕ). w ++ (x ++ l)) (sym (spaced-append (r .place) (10 ∷ []))) ∙ ap (λ (l : List ℕ). w ++ l) (sym (spaced-append (r .number) (spaced (r .place) (10 ∷ [])))))
+    let f : (w ++ x ++ y) ++ 10 ∷ [] ≡ refusedLine r =
+    append-assoc (w ++ x) y (10 ∷ []) ∙ append-assoc w x (y ++ 10 ∷ [])
+    ∙ ap (λ (l : List ℕ). w ++ (x ++ l)) (sym (spaced-append (r .place) (10 ∷ [])))
+    ∙ ap (λ (l : List ℕ). w ++ l) (sym (spaced-append (r .number) (spaced (r .place) (10 ∷ [])))) in
+    q₄ ∙ ap (puts l₀ at) f
 
 -- of `put_ok`
 pub ok-put : (u v w a b d e : ℕ) (l₀ l₁ l₂ l₃ l₄ l₅ : List ℕ)
@@ -118,14 +121,22 @@ printed-page s o (ok q) x o′ e f =
       long = rw w (length-append (q .text) (10 ∷ []));
     }
 
-module _ (n : ℕ) (t d : List ℕ) (i : ℕ) (s o : List ℕ) (e : sound n t d ≡ true) (h : i < n) (k : n ≤ length s) (l : length o ≡ 8192) (r : Text) (s′ o′ : List ℕ) (P : Prints n t d i 1000 s o r s′ o′) where
+page-scratch : (s o : List ℕ) (p : Res Page) → (printOut s o p) .scratch ≡ zeroed s
+page-scratch s o (bad q) = refl
+page-scratch s o (ok q) = refl
+
+module _ (n : ℕ) (t d : List ℕ) (i budget : ℕ) (s o : List ℕ) (H : (sound n t d ≡ true) × (i < n)) (L : (n ≤ length s) × (length o ≡ 8192)) (r : Text) (s′ o′ : List ℕ)
+    (P : Prints n t d i budget s o r s′ o′) where
   abbrev said : Res Page
-  said = page (cellsOf n t d) i 1000 8192
+  said = page (cellsOf n t d) i budget 8192
 
   -- what is printed of a root of a sound store is what its page says
-  as-page : printing n t d i 1000 s o ≡ printOut s o said
+  as-page : printing n t d i budget s o ≡ printOut s o said
   unfolding printing
-  as-page = rw (lent-cells 1 n t d i (length s) e h (omega arith), l)
+  as-page = rw (lent-cells 1 n t d i (length s) (H .0) (H .1) (omega (arith, L .0)), L .1)
+
+  pub line-clean : s′ ≡ zeroed s
+  line-clean = P .scratch ∙ ap (λ (w : WriteOut Printed). w .scratch) as-page ∙ page-scratch s o said
 
   pub line-refused : (q : Refusal) → r ≡ Left q → pageLine said ≡ refusedLine q
   line-refused q g = refused-page s o said q (sym (ap paperOf g) ∙ P .answer ∙ ap (λ (w : WriteOut Printed). w .answer) as-page)
@@ -138,51 +149,52 @@ module _ (n : ℕ) (t d : List ℕ) (i : ℕ) (s o : List ℕ) (e : sound n t d 
 -- ---- all roots' lines
 
 module _ (s : List Cell) where
-  lines-snoc : (rs : List ℕ) (r : ℕ) → rootLines s (rs ++ r ∷ []) ≡ rootLines s rs ++ pageLine (page s r 1000 8192)
+  abbrev line : ℕ → List ℕ
+  line i = pageLine (page s i 1000 8192)
+
+  lines-snoc : (rs : List ℕ) (r : ℕ) → rootLines s (rs ++ r ∷ []) ≡ rootLines s rs ++ line r
   unfolding rootLines
-  lines-snoc [] r = append-nil (pageLine (page s r 1000 8192))
+  lines-snoc [] r = append-nil (line r)
   lines-snoc (x ∷ rs) r =
-      ap (λ (l : List ℕ). pageLine (page s x 1000 8192) ++ l) (lines-snoc rs r) ∙ sym (append-assoc (pageLine (page s x 1000 8192)) (rootLines s rs) (pageLine (page s r 1000 8192)))
+      ap (λ (l : List ℕ). line x ++ l) (lines-snoc rs r) ∙ sym (append-assoc (line x) (rootLines s rs) (line r))
 
   -- one root more
-  lines-more : (rs : List ℕ) (i : ℕ) → i < length rs → rootLines s (take (i + 1) rs) ≡ rootLines s (take i rs) ++ pageLine (page s (getD rs i 0) 1000 8192)
+  lines-more : (rs : List ℕ) (i : ℕ) → i < length rs → rootLines s (take (i + 1) rs) ≡ rootLines s (take i rs) ++ line (getD rs i 0)
   lines-more rs i h = rw (add-one i, take-suc rs i 0 h) (lines-snoc (take i rs) (getD rs i 0))
 
-  pub lines-next : (rs : List ℕ) (i r : ℕ) → r ≡ getD rs i 0 → i < length rs → rootLines s (take (i + 1) rs) ≡ rootLines s (take i rs) ++ pageLine (page s r 1000 8192)
+  pub lines-next : (rs : List ℕ) (i r : ℕ) → r ≡ getD rs i 0 → i < length rs → rootLines s (take (i + 1) rs) ≡ rootLines s (take i rs) ++ line r
   lines-next rs i r e h = rw e (lines-more rs i h)
 
-  pub next-length : (rs : List ℕ) (i r : ℕ) → r ≡ getD rs i 0 → i < length rs → length (rootLines s (take (i + 1) rs)) ≡ length (rootLines s (take i rs)) + length (pageLine (page s r 1000 8192))
-  next-length rs i r e h = ap length (lines-next rs i r e h) ∙ length-append (rootLines s (take i rs)) (pageLine (page s r 1000 8192))
+  pub next-length : (rs : List ℕ) (i r : ℕ) → r ≡ getD rs i 0 → i < length rs → length (rootLines s (take (i + 1) rs)) ≡ length (rootLines s (take i rs)) + length (line r)
+  next-length rs i r e h = ap length (lines-next rs i r e h) ∙ length-append (rootLines s (take i rs)) (line r)
 
   pub lines-none : (rs : List ℕ) → rootLines s (take 0 rs) ≡ []
   unfolding rootLines
   lines-none rs = refl
 
-  lines-le : (rs : List ℕ) (i k : ℕ) → i < k → k ≤ length rs → length (rootLines s (take i rs)) + length (pageLine (page s (getD rs i 0) 1000 8192)) ≤ length (rootLines s (take k rs))
+  lines-le : (rs : List ℕ) (i k : ℕ) → i < k → k ≤ length rs → length (rootLines s (take i rs)) + length (line (getD rs i 0)) ≤ length (rootLines s (take k rs))
   lines-le rs i zero h g = absurd (not-suc-le-zero h)
   lines-le rs i (suc k) h g = ⊎-elim
-      (λ q. rw (q, ← add-one k, lines-more rs k (omega arith), length-append (rootLines s (take k rs)) (pageLine (page s (getD rs k 0) 1000 8192))) (le-refl _))
+      (λ q. rw (q, ← add-one k, lines-more rs k (omega arith), length-append (rootLines s (take k rs)) (line (getD rs k 0))) (le-refl _))
       (λ l.
       let ih = lines-le rs i k l (omega arith) in
-      let m : length (rootLines s (take (suc k) rs)) ≡ length (rootLines s (take k rs)) + length (pageLine (page s (getD rs k 0) 1000 8192)) =
-      rw (← add-one k, lines-more rs k (omega arith)) (length-append (rootLines s (take k rs)) (pageLine (page s (getD rs k 0) 1000 8192))) in
+      let m : length (rootLines s (take (suc k) rs)) ≡ length (rootLines s (take k rs)) + length (line (getD rs k 0)) =
+      rw (← add-one k, lines-more rs k (omega arith)) (length-append (rootLines s (take k rs)) (line (getD rs k 0))) in
       omega arith)
       (eq-or-lt-of-le (le-of-suc-le-suc h))
 
   -- those of the first i roots, with the next one's, are no longer than all
-  pub lines-room : (rs : List ℕ) (i k r : ℕ) → r ≡ getD rs i 0 → i < k → k ≤ length rs → length (rootLines s (take i rs)) + length (pageLine (page s r 1000 8192)) ≤ length (rootLines s (take k rs))
+  pub lines-room : (rs : List ℕ) (i k r : ℕ) → r ≡ getD rs i 0 → i < k → k ≤ length rs → length (rootLines s (take i rs)) + length (line r) ≤ length (rootLines s (take k rs))
   lines-room rs i k r e h g = rw e (lines-le rs i k h g)
 
 -- ---- the outcome
 
 module _ (text o : List ℕ) where
-  pub told-short : length o < length text → (n : ℕ) → n ≡ length text → Tells text o (Refused (refusal 20 n)) o
-  unfolding telling
-  told-short h n e = record { answer = rw (lt-leb (length text) (length o) h, e); out = rw (lt-leb (length text) (length o) h) }
+  pub told-short : length o < length text → (n : ℕ) → n ≡ length text → Tells text o n o
+  told-short h n e = record { len = e; out = rw (lt-leb (length text) (length o) h) }
 
-  pub told : length text ≤ length o → (n : ℕ) (o′ : List ℕ) → n ≡ length text → o′ ≡ puts o 0 text → Tells text o (Written n) o′
-  unfolding telling
-  told h n o′ e f = record { answer = rw (le-leb (length text) (length o) h, e); out = rw (le-leb (length text) (length o) h) (f ∙ puts-start o text h) }
+  pub told : length text ≤ length o → (n : ℕ) (o′ : List ℕ) → n ≡ length text → o′ ≡ puts o 0 text → Tells text o n o′
+  told h n o′ e f = record { len = e; out = rw (le-leb (length text) (length o) h) (f ∙ puts-start o text h) }
 
 -- the first line, and the roots' lines behind it
 pub both-put : (a b o o₁ o₂ : List ℕ) (at : ℕ) → o₁ ≡ puts o 0 a → at ≡ length a → o₂ ≡ puts o₁ at b → o₂ ≡ puts o 0 (a ++ b)

@@ -1,23 +1,24 @@
-// The whole output of the program for one reply, as a function of its bytes.
+// The whole output of the program for one reply, as a function of its bytes and of the memory that is lent for it.
 ghost use mathlib.Core.Path.{_≡_};
 ghost use mathlib.Core.Bool.{true};
 ghost use mathlib.Core.List.{[], _++_};
 ghost use Prim.Native.Nat.{_+_, _*_, _≤_, _<_};
-ghost use lib.ListN.{length, take, replicate};
-ghost use Rattle.scheme.specs.Memory.{sound, cellsOf};
-ghost use Rattle.scheme.specs.Text.{digits, page as pageOf};
-ghost use Rattle.scheme.specs.Res.{refusal};
-ghost use Rattle.scheme.specs.Program.{spaced, refusedLine, pageLine, rootLines, tooLong};
+ghost use lib.ListN.{length};
+ghost use Rattle.scheme.specs.Memory.{sound};
+ghost use Rattle.scheme.specs.Calls.{zeroed};
+ghost use Rattle.scheme.specs.Text.{digits};
+ghost use Rattle.scheme.specs.Program.{spaced, refusedLine, tooLong};
 ghost use Rattle.laws.specs.Puts.{puts};
-ghost use Rattle.report.specs.Lines.{okLine, Roots};
+ghost use Rattle.report.specs.Lines.{okLine, lineOf, linesOf, Roots};
 ghost use Rattle.report.specs.Paper.{Tells, Reports};
 use memory::entry;
 use memory::put_byte;
 use memory::put_bytes;
+use memory::zero_numbers;
 use reader::ReadAnswer;
 use reader::unpack_fully;
-use scheme::NOROOM;
 use scheme::Refusal;
+use store::clear;
 use text::Text;
 use text::debug_text;
 use text::put_decimal;
@@ -26,20 +27,15 @@ use text::width;
 // The bytes of a reply at most.
 pub const MAX_INPUT: usize = 32768;
 
-// The numbers of a table of 128 records, and their data bytes.
-const TABLE_LEN: usize = 896;
-
-const BYTES_LEN: usize = 16384;
-
-// Scratch for 128 bag cells, and the root places.
-const SCRATCH_LEN: usize = 256;
-
-const ROOTS_LEN: usize = 16;
-
 // The bytes of a root's text at most, and the cells that it prints at most.
 const PAGE_LEN: usize = 8192;
 
 const BUDGET: usize = 1000;
+
+// The bytes of the first line of a report at most, and of a root's line.
+pub const FIRST_LINE_LEN: usize = 66;
+
+pub const LINE_LEN: usize = PAGE_LEN + 1;
 
 // The bytes of `too long`.
 const TOO_LONG_LEN: usize = 9;
@@ -104,7 +100,8 @@ fn line_len(
 ) -> usize
     requires { ⌜ (sound count (now table) (now bytes) ≡ true) × (root < count) ⌝ }
     requires { ⌜ (count ≤ length (now scratch)) × (length (now page) ≡ 8192) ⌝ }
-    ensures { λ r. ⌜ (r ≡ length (pageLine (pageOf (cellsOf count (now (table .entry)) (now (bytes .entry))) root 1000 8192))) × (r ≤ 8193) ⌝ }
+    ensures len { λ r. ⌜ (r ≡ length (lineOf count (now (table .entry)) (now (bytes .entry)) root)) × (r ≤ 8193) ⌝ }
+    ensures clean { λ _. ⌜ now (scratch .exit) ≡ zeroed (now (scratch .entry)) ⌝ }
 {
     let t = debug_text(count, table, bytes, root, BUDGET, scratch, page);
     match t {
@@ -126,9 +123,10 @@ fn put_line(
 ) -> usize
     requires { ⌜ (sound count (now table) (now bytes) ≡ true) × (root < count) ⌝ }
     requires { ⌜ (count ≤ length (now scratch)) × (length (now page) ≡ 8192) ⌝ }
-    requires { ⌜ at + length (pageLine (pageOf (cellsOf count (now table) (now bytes)) root 1000 8192)) ≤ length (now out) ⌝ }
-    ensures next { λ r. ⌜ r ≡ at + length (pageLine (pageOf (cellsOf count (now (table .entry)) (now (bytes .entry))) root 1000 8192)) ⌝ }
-    ensures put { λ _. ⌜ now (out .exit) ≡ puts (now (out .entry)) at (pageLine (pageOf (cellsOf count (now (table .entry)) (now (bytes .entry))) root 1000 8192)) ⌝ }
+    requires { ⌜ at + length (lineOf count (now table) (now bytes) root) ≤ length (now out) ⌝ }
+    ensures next { λ r. ⌜ r ≡ at + length (lineOf count (now (table .entry)) (now (bytes .entry)) root) ⌝ }
+    ensures put { λ _. ⌜ now (out .exit) ≡ puts (now (out .entry)) at (lineOf count (now (table .entry)) (now (bytes .entry)) root) ⌝ }
+    ensures clean { λ _. ⌜ now (scratch .exit) ≡ zeroed (now (scratch .entry)) ⌝ }
 {
     let t = debug_text(count, table, bytes, root, BUDGET, scratch, page);
     match t {
@@ -151,9 +149,11 @@ fn lines_len(
     scratch: &mut [u32],
     page: &mut [u8],
 ) -> usize
-    requires { ⌜ Roots count (now table) (now bytes) (now roots) k ⌝ }
-    requires { ⌜ (count ≤ length (now scratch)) × (length (now page) ≡ 8192) ⌝ }
-    ensures { λ r. ⌜ (r ≡ length (rootLines (cellsOf count (now (table .entry)) (now (bytes .entry))) (take k (now (roots .entry))))) × (r ≤ 131088) ⌝ }
+    requires { ⌜ Roots count (now table) (now bytes) (now roots) k (now scratch) ⌝ }
+    requires { ⌜ length (now page) ≡ 8192 ⌝ }
+    ensures len { λ r. ⌜ r ≡ length (linesOf count (now (table .entry)) (now (bytes .entry)) (now (roots .entry)) k) ⌝ }
+    ensures few { λ r. ⌜ r ≤ 8193 * 4096 ⌝ }
+    ensures clean { λ _. ⌜ now (scratch .exit) ≡ now (scratch .entry) ⌝ }
 {
     let mut i = 0;
     let mut total = 0;
@@ -177,11 +177,12 @@ fn put_lines(
     out: &mut [u8],
     at: usize,
 ) -> usize
-    requires { ⌜ Roots count (now table) (now bytes) (now roots) k ⌝ }
-    requires { ⌜ (count ≤ length (now scratch)) × (length (now page) ≡ 8192) ⌝ }
-    requires { ⌜ at + length (rootLines (cellsOf count (now table) (now bytes)) (take k (now roots))) ≤ length (now out) ⌝ }
-    ensures next { λ r. ⌜ r ≡ at + length (rootLines (cellsOf count (now (table .entry)) (now (bytes .entry))) (take k (now (roots .entry)))) ⌝ }
-    ensures put { λ _. ⌜ now (out .exit) ≡ puts (now (out .entry)) at (rootLines (cellsOf count (now (table .entry)) (now (bytes .entry))) (take k (now (roots .entry)))) ⌝ }
+    requires { ⌜ Roots count (now table) (now bytes) (now roots) k (now scratch) ⌝ }
+    requires { ⌜ length (now page) ≡ 8192 ⌝ }
+    requires { ⌜ at + length (linesOf count (now table) (now bytes) (now roots) k) ≤ length (now out) ⌝ }
+    ensures next { λ r. ⌜ r ≡ at + length (linesOf count (now (table .entry)) (now (bytes .entry)) (now (roots .entry)) k) ⌝ }
+    ensures put { λ _. ⌜ now (out .exit) ≡ puts (now (out .entry)) at (linesOf count (now (table .entry)) (now (bytes .entry)) (now (roots .entry)) k) ⌝ }
+    ensures clean { λ _. ⌜ now (scratch .exit) ≡ now (scratch .entry) ⌝ }
 {
     let mut i = 0;
     let mut to = at;
@@ -193,40 +194,25 @@ fn put_lines(
     to
 }
 
-// The bytes written, or why nothing is.
-pub enum Reported {
-    Written(usize),
-    Refused(Refusal),
-}
-
-fn no_room(len: usize) -> Reported
-    ensures { λ r. ⌜ r ≡ Reported.Refused (refusal 20 len) ⌝ }
-{
-    Reported::Refused(Refusal {
-        number: NOROOM,
-        place: len,
-    })
-}
-
 // The report of a reply that is too long.
-fn tell_long(out: &mut [u8]) -> Reported
+fn tell_long(out: &mut [u8]) -> usize
     ensures { λ r. ⌜ Tells tooLong (now (out .entry)) r (now (out .exit)) ⌝ }
 {
     if out.len() < TOO_LONG_LEN {
-        return no_room(TOO_LONG_LEN);
+        return TOO_LONG_LEN;
     }
-    Reported::Written(put_bytes(b"too long\n", out, 0))
+    put_bytes(b"too long\n", out, 0)
 }
 
 // The report of a read that is refused.
-fn tell_refused(r: Refusal, out: &mut [u8]) -> Reported
-    ensures { λ a. ⌜ Tells (refusedLine r) (now (out .entry)) a (now (out .exit)) ⌝ }
+fn tell_refused(r: Refusal, out: &mut [u8]) -> usize
+    ensures { λ n. ⌜ Tells (refusedLine r) (now (out .entry)) n (now (out .exit)) ⌝ }
 {
     let len = refused_len(r);
     if out.len() < len {
-        return no_room(len);
+        return len;
     }
-    Reported::Written(put_refused(out, 0, r))
+    put_refused(out, 0, r)
 }
 
 // The report of a bag that is read into the store.
@@ -239,73 +225,54 @@ fn tell_bag(
     bytes: &[u8],
     roots: &[u32],
     scratch: &mut [u32],
-    page: &mut [u8],
     out: &mut [u8],
-) -> Reported
-    requires { ⌜ Roots count (now table) (now bytes) (now roots) k ⌝ }
-    requires { ⌜ (count ≤ length (now scratch)) × (length (now page) ≡ 8192) ⌝ }
-    ensures { λ r. ⌜ Tells (okLine used cells k ++ rootLines (cellsOf count (now (table .entry)) (now (bytes .entry))) (take k (now (roots .entry)))) (now (out .entry)) r (now (out .exit)) ⌝ }
+) -> usize
+    requires { ⌜ Roots count (now table) (now bytes) (now roots) k (now scratch) ⌝ }
+    ensures told { λ r. ⌜ Tells (okLine used cells k ++ linesOf count (now (table .entry)) (now (bytes .entry)) (now (roots .entry)) k) (now (out .entry)) r
+        (now (out .exit)) ⌝ }
+    ensures clean { λ _. ⌜ now (scratch .exit) ≡ now (scratch .entry) ⌝ }
 {
-    let len = ok_len(used, cells, k) + lines_len(count, table, bytes, roots, k, scratch, page);
+    let mut page = [0u8; PAGE_LEN];
+    let first = ok_len(used, cells, k);
+    let len = first + lines_len(count, table, bytes, roots, k, scratch, &mut page);
     if out.len() < len {
-        return no_room(len);
+        return len;
     }
     let at = put_ok(out, used, cells, k);
-    Reported::Written(put_lines(count, table, bytes, roots, k, scratch, page, out, at))
+    put_lines(count, table, bytes, roots, k, scratch, &mut page, out, at)
 }
 
-// The report, with memory that is lent: a cleared store of 128 records, scratch for 128 bag cells, 16 root places and a page.
-fn report_in(
+// The report of a reply, which is read into the store once that is cleared: a line of numbers and a line for each root, or why there is none.
+// Answers its length, and writes it to the front of out if it fits there.
+pub fn report(
     reply: &[u8],
+    count: &mut usize,
     table: &mut [u32],
     bytes: &mut [u8],
     scratch: &mut [u32],
     roots: &mut [u32],
-    page: &mut [u8],
     out: &mut [u8],
-) -> Reported
-    requires { ⌜ (now table ≡ replicate (128 * 7) 0) × (now bytes ≡ replicate (128 * 128) 0) ⌝ }
-    requires { ⌜ (length (now scratch) ≡ 256) × (length (now roots) ≡ 16) × (length (now page) ≡ 8192) ⌝ }
-    ensures { λ r. ⌜ Reports (now (reply .entry)) (now (out .entry)) r (now (out .exit)) ⌝ }
+) -> usize
+    ensures { λ r. ⌜ Reports (now (count .entry)) (now (table .entry)) (now (bytes .entry)) (now (scratch .entry)) (now (roots .entry)) (now (out .entry))
+        (now (reply .entry)) r (now (count .exit)) (now (table .exit)) (now (bytes .exit)) (now (scratch .exit)) (now (roots .exit)) (now (out .exit)) ⌝ }
 {
     if MAX_INPUT < reply.len() {
+        zero_numbers(scratch);
         return tell_long(out);
     }
-    let mut count = 0;
-    let answer = unpack_fully(reply, &mut count, table, bytes, scratch, roots);
-    match answer {
+    clear(count, table, bytes);
+    match unpack_fully(reply, count, table, bytes, scratch, roots) {
         ReadAnswer::Refused(r) => tell_refused(r, out),
         ReadAnswer::Done(c) => tell_bag(
             c.used,
             c.cells,
             c.roots,
-            count,
+            *count,
             table,
             bytes,
             roots,
             scratch,
-            page,
             out,
         ),
     }
-}
-
-// What the program prints for a reply, written to the front of out; nothing is written if it does not fit.
-pub fn report(reply: &[u8], out: &mut [u8]) -> Reported
-    ensures { λ r. ⌜ Reports (now (reply .entry)) (now (out .entry)) r (now (out .exit)) ⌝ }
-{
-    let mut table = [0u32; TABLE_LEN];
-    let mut bytes = [0u8; BYTES_LEN];
-    let mut scratch = [0u32; SCRATCH_LEN];
-    let mut roots = [0u32; ROOTS_LEN];
-    let mut page = [0u8; PAGE_LEN];
-    report_in(
-        reply,
-        &mut table,
-        &mut bytes,
-        &mut scratch,
-        &mut roots,
-        &mut page,
-        out,
-    )
 }

@@ -1,11 +1,31 @@
-// Reads replies from standard input, each behind its length in four bytes, the high one first, and prints the report of each.
-ghost use Prim.Native.Nat.{_<_};
+// Reads cases from standard input and prints the report of each. A case is two bytes, the cells of the store; four bytes, the length of a reply;
+// and the reply. Numbers have the high byte first. A store or a reply that is longer than the memory here ends the run.
+ghost use mathlib.Core.Path.{_≡_};
+ghost use Prim.Native.Nat.{_*_, _≤_, _<_};
+ghost use lib.ListN.{length};
 use libc::STDIN_FILENO;
 use report::MAX_INPUT;
+use scheme::DATA_LEN;
+use scheme::RECORD_LEN;
+use tell::OUT_LEN;
+use tell::ROOTS_LEN;
+use tell::SCRATCH_PER_CELL;
 use tell::tell;
+
+// The bytes in front of a reply.
+const HEAD_LEN: usize = 6;
 
 // The bytes of a reply at most, and one more, by which one that is too long is known.
 const INPUT_LEN: usize = MAX_INPUT + 1;
+
+// The cells of a store at most.
+const CELLS: usize = 512;
+
+const TABLE_LEN: usize = CELLS * RECORD_LEN;
+
+const BYTES_LEN: usize = CELLS * DATA_LEN;
+
+const SCRATCH_LEN: usize = CELLS * SCRATCH_PER_CELL;
 
 fn wide(x: u8) -> usize
     ensures { λ r. ⌜ r < 256 ⌝ }
@@ -13,31 +33,91 @@ fn wide(x: u8) -> usize
     x as usize
 }
 
-// Reads a reply of len bytes into input, prints its report, and answers whether it fits there.
-fn tell_reply(input: &mut [u8], len: usize) -> bool {
+// What stands in front of a reply: the cells of the store, and the length; or the end of the cases.
+pub enum Head {
+    Case(usize, usize),
+    End,
+}
+
+fn read_head() -> Head {
+    let mut head = [0u8; HEAD_LEN];
+    if io::read_full(STDIN_FILENO, &mut head) < HEAD_LEN {
+        return Head::End;
+    }
+    let cells = wide(head[0]) * 256 + wide(head[1]);
+    let len = ((wide(head[2]) * 256 + wide(head[3])) * 256 + wide(head[4])) * 256 + wide(head[5]);
+    Head::Case(cells, len)
+}
+
+// Prints the report of a reply, with the memory of a store of so many cells.
+fn tell_in(
+    reply: &[u8],
+    cells: usize,
+    table: &mut [u32],
+    bytes: &mut [u8],
+    scratch: &mut [u32],
+    roots: &mut [u32],
+    out: &mut [u8],
+)
+    requires { ⌜ (cells * 7 ≤ length (now table)) × (cells * 128 ≤ length (now bytes)) × (cells * 2 ≤ length (now scratch)) ⌝ }
+{
+    let table_len = cells * RECORD_LEN;
+    let bytes_len = cells * DATA_LEN;
+    let scratch_len = cells * SCRATCH_PER_CELL;
+    tell(
+        reply,
+        &mut table[..table_len],
+        &mut bytes[..bytes_len],
+        &mut scratch[..scratch_len],
+        roots,
+        out,
+    );
+}
+
+// Reads a case, prints its report, and answers whether to go on. What an earlier case left in the memory is cleared.
+fn tell_next(
+    input: &mut [u8],
+    table: &mut [u32],
+    bytes: &mut [u8],
+    scratch: &mut [u32],
+    roots: &mut [u32],
+    out: &mut [u8],
+) -> bool
+    requires { ⌜ (length (now table) ≡ 512 * 7) × (length (now bytes) ≡ 512 * 128) × (length (now scratch) ≡ 512 * 2) ⌝ }
+{
+    let Head::Case(cells, len) = read_head() else {
+        return false;
+    };
     if input.len() < len {
         return false;
     }
-    let n = io::read_full(STDIN_FILENO, &mut input[..len]);
-    tell(&input[..n]);
-    true
-}
-
-// Reads a length and the reply behind it, prints its report, and answers whether to go on.
-fn tell_next() -> bool {
-    let mut head = [0u8; 4];
-    if io::read_full(STDIN_FILENO, &mut head) < 4 {
+    if CELLS < cells {
         return false;
     }
-    let len = ((wide(head[0]) * 256 + wide(head[1])) * 256 + wide(head[2])) * 256 + wide(head[3]);
-    let mut input = [0u8; INPUT_LEN];
-    tell_reply(&mut input, len)
+    let n = io::read_full(STDIN_FILENO, &mut input[..len]);
+    tell_in(&input[..n], cells, table, bytes, scratch, roots, out);
+    true
 }
 
 // A loop that is proved has to end, so the turns count down, from a number that no run uses up.
 fn main() {
+    let mut input = [0u8; INPUT_LEN];
+    let mut table = [0u32; TABLE_LEN];
+    let mut bytes = [0u8; BYTES_LEN];
+    let mut scratch = [0u32; SCRATCH_LEN];
+    let mut roots = [0u32; ROOTS_LEN];
+    let mut out = [0u8; OUT_LEN];
     let mut turns = u64::MAX;
-    while turns > 0 && tell_next() {
+    while turns > 0
+        && tell_next(
+            &mut input,
+            &mut table,
+            &mut bytes,
+            &mut scratch,
+            &mut roots,
+            &mut out,
+        )
+    {
         turns -= 1;
     }
 }

@@ -682,12 +682,17 @@ pub fn debug_text(memory: &Memory, n: usize, budget: usize, scratch: &mut [u32],
 
 /// What the program prints for its standard input.
 pub fn printed(input: &[u8]) -> Vec<u8> {
+    reported(input, 128, 256, 16)
+}
+
+/// The report of an input: with a store of so many cells, so many scratch entries, and so many root places.
+pub fn reported(input: &[u8], cells: usize, entries: usize, places: usize) -> Vec<u8> {
     if input.len() > 32_768 {
         return b"too long\n".to_vec();
     }
-    let mut memory = Memory::new(128);
-    let mut scratch = [0u32; 256];
-    let mut roots = [0u32; 16];
+    let mut memory = Memory::new(cells);
+    let mut scratch = vec![0; entries];
+    let mut roots = vec![0; places];
     let mut out = [0u8; 8192];
     let counts = match read(input, true, &mut memory, &mut scratch, &mut roots) {
         Ok(counts) => counts,

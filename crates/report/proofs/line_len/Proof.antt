@@ -2,7 +2,7 @@
 use mathlib.Core.Path.{ap}
 use native.Mathlib.Omega.{arith}
 use lib.ListN.{length}
-use Rattle.report.proofs.Lines.{line-printed, line-refused}
+use Rattle.report.proofs.Lines.{line-printed, line-refused, line-clean}
 use borrow.Author.Needs.{needs}
 use Rattle.report.proofs.line_len.Statement.{statement}
 use Rattle.report.proofs.line_len.Tie as tie
@@ -15,10 +15,11 @@ enum-known-t c = search needs
 
 add-result : tie.Need-add-result
 add-result c =
-    let s = c .before .before .before .before .before .before .before .before .before .before .before .before .before .before .before in
-    let x = c .before .before .before .before .before .before .before .before .debug-text in
-    let l = line-printed _ _ _ _ _ _ (s .pre .0 .0) (s .pre .0 .1) (s .pre .1 .0) (s .pre .1 .1) _ _ _ (x .ensures) _ (c .before .before .t .given .1) in
-    omega (arith, l .room, x .kept .1 .1 .1 .1 .1 .1 .0, s .pre .1 .1)
+    let s : tie.Start = search needs in
+    let x : tie.After-debug-text = search needs in
+    let m : tie.After-t = search needs in
+    let l = line-printed _ _ _ _ _ _ _ (s .pre .0) (s .pre .1) _ _ _ (x .debug-text .ensures) _ (m .t .given .1) in
+    omega (arith, l .room, x .debug-text .kept .1 .1 .1 .1 .1 .1 .0, s .pre .1 .1)
 
 enum-known-t-2 : tie.Need-enum-known-t-2
 enum-known-t-2 c = search needs
@@ -34,10 +35,11 @@ same-length-2 c = search needs
 
 returns : tie.Need-returns
 returns c =
-    let s = c .before .before .before .before .before .before .before .before .before .before .before .before .before .before .before in
-    let x = c .before .before .before .before .before .before .before .before .debug-text in
-    let l = line-printed _ _ _ _ _ _ (s .pre .0 .0) (s .pre .0 .1) (s .pre .1 .0) (s .pre .1 .1) _ _ _ (x .ensures) _ (c .before .before .t .given .1) in
-    omega (arith, l .long, l .room, x .kept .1 .1 .1 .1 .1 .1 .0, s .pre .1 .1)
+    let s : tie.Start = search needs in
+    let x : tie.After-debug-text = search needs in
+    let m : tie.After-t = search needs in
+    let l = line-printed _ _ _ _ _ _ _ (s .pre .0) (s .pre .1) _ _ _ (x .debug-text .ensures) _ (m .t .given .1) in
+    (omega (arith, l .long, l .room, x .debug-text .kept .1 .1 .1 .1 .1 .1 .0, s .pre .1 .1), line-clean _ _ _ _ _ _ _ (s .pre .0) (s .pre .1) _ _ _ (x .debug-text .ensures))
 
 same-length-3 : tie.Need-same-length-3
 same-length-3 c = search needs
@@ -47,10 +49,11 @@ same-length-4 c = search needs
 
 returns-2 : tie.Need-returns-2
 returns-2 c =
-    let s = c .before .before .before .before .before .before .before .before .before .before .before .before .before .before .before in
-    let x = c .before .before .before .before .before .before .before .before .debug-text in
-    let l = line-refused _ _ _ _ _ _ (s .pre .0 .0) (s .pre .0 .1) (s .pre .1 .0) (s .pre .1 .1) _ _ _ (x .ensures) _ (c .before .before .t2 .given .1) in
-    omega (arith, ap length l, c .refused-len .ensures)
+    let s : tie.Start = search needs in
+    let x : tie.After-debug-text = search needs in
+    let m : tie.After-t2 = search needs in
+    let l = line-refused _ _ _ _ _ _ _ (s .pre .0) (s .pre .1) _ _ _ (x .debug-text .ensures) _ (m .t2 .given .1) in
+    (omega (arith, ap length l, c .refused-len .ensures), line-clean _ _ _ _ _ _ _ (s .pre .0) (s .pre .1) _ _ _ (x .debug-text .ensures))
 
 pub line-len-spec : {M : Type 1} → statement M
 line-len-spec =

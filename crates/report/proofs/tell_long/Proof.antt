@@ -6,11 +6,8 @@ use borrow.Author.Needs.{needs}
 use Rattle.report.proofs.tell_long.Statement.{statement}
 use Rattle.report.proofs.tell_long.Tie as tie
 
-no-room-requires : tie.Need-no-room-requires
-no-room-requires c κs = search needs
-
 returns : tie.Need-returns
-returns c = rw (c .no-room .ensures) (told-short tooLong _ (c .before .if1 .taken) 9 refl)
+returns c = told-short tooLong _ (c .if1 .taken) _ refl
 
 slice-aggregate-put-bytes : tie.Need-slice-aggregate-put-bytes
 slice-aggregate-put-bytes c = search needs
@@ -26,11 +23,4 @@ returns-2 c = told tooLong _ (c .before .before .before .before .before .if1 .le
 
 pub tell-long-spec : {M : Type 1} → statement M
 tell-long-spec =
-    tie.close
-    (tie.spec
-    no-room-requires
-    returns
-    slice-aggregate-put-bytes
-    put-bytes-requires
-    same-length
-    returns-2)
+    tie.close (tie.spec returns slice-aggregate-put-bytes put-bytes-requires same-length returns-2)

@@ -9,14 +9,11 @@ use Rattle.report.proofs.tell_refused.Tie as tie
 refused-len-requires : tie.Need-refused-len-requires
 refused-len-requires c κs = search needs
 
-no-room-requires : tie.Need-no-room-requires
-no-room-requires c κs = search needs
-
 returns : tie.Need-returns
 returns c =
-    let r = c .before .before .before .before .args .r in
-    let e = c .before .before .refused-len .ensures .0 in
-    rw (c .no-room .ensures) (told-short (refusedLine r) _ (omega (arith, e, c .before .if1 .taken)) _ e)
+    let r = c .before .before .before .args .r in
+    let e = c .before .refused-len .ensures .0 in
+    told-short (refusedLine r) _ (omega (arith, e, c .if1 .taken)) _ e
 
 put-refused-requires : tie.Need-put-refused-requires
 put-refused-requires c κs = search needs
@@ -28,15 +25,9 @@ returns-2 : tie.Need-returns-2
 returns-2 c =
     let r = c .before .before .before .before .before .before .before .args .r in
     let e = c .before .before .before .before .before .refused-len .ensures .0 in
-    told (refusedLine r) _ (omega (arith, e, c .before .before .before .before .if1 .left)) _ _ (omega (arith, c .before .before .put-refused .ensures .0)) (c .before .before .put-refused .ensures .1)
+    let p = c .before .before .put-refused in
+    told (refusedLine r) _ (omega (arith, e, c .before .before .before .before .if1 .left)) _ _ (omega (arith, p .ensures .0)) (p .ensures .1)
 
 pub tell-refused-spec : {M : Type 1} → statement M
 tell-refused-spec =
-    tie.close
-    (tie.spec
-    refused-len-requires
-    no-room-requires
-    returns
-    put-refused-requires
-    same-length
-    returns-2)
+    tie.close (tie.spec refused-len-requires returns put-refused-requires same-length returns-2)
