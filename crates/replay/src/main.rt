@@ -7,7 +7,6 @@ use bits::Field;
 use bits::read_field;
 use builder::CellBuilder;
 use crc32c::crc32c;
-use memory::entry;
 use memory::put_bytes;
 use reader::ReadAnswer;
 use reader::deserialize;
@@ -128,40 +127,29 @@ fn prepare(count: &mut usize, table: &mut [u32], bytes: &mut [u8], held: usize) 
     add_cells(count, table, bytes, held);
 }
 
-fn spaced(n: usize) {
-    io::write_all(1, b" ");
-    io::print_decimal(1, n as u64);
-}
-
 fn print_roots(roots: &[u32], n: usize) {
     let most = least(n, roots.len());
-    let mut i = 0;
-    while i < most {
-        spaced(entry(roots, i));
-        i += 1;
-    }
+    show::numbers(&roots[..most]);
 }
 
 fn print_line(answer: ReadAnswer, count: usize, roots: &[u32], sum: u32) {
     match answer {
         ReadAnswer::Done(c) => {
-            io::write_all(1, b"ok");
-            spaced(c.used);
-            spaced(c.cells);
-            spaced(c.roots);
-            spaced(c.added);
-            spaced(count);
+            show::text(b"ok");
+            show::spaced(c.used);
+            show::spaced(c.cells);
+            show::spaced(c.roots);
+            show::spaced(c.added);
+            show::spaced(count);
             print_roots(roots, c.roots);
         }
         ReadAnswer::Refused(r) => {
-            io::write_all(1, b"refused");
-            spaced(r.number as usize);
-            spaced(r.place);
-            spaced(count);
+            show::refused(r);
+            show::spaced(count);
         }
     }
-    spaced(sum as usize);
-    io::write_all(1, b"\n");
+    show::spaced(sum as usize);
+    show::end();
 }
 
 // The line of a case.

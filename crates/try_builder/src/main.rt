@@ -1,87 +1,36 @@
 // Runs the builder's steps, at odd places of a byte and with each refusal among them. Each step writes a line: the verdict, the flag,
 // the bits, the references in use, all four of them, and all data bytes.
-ghost use Prim.Native.Nat.{_<_};
-ghost use mathlib.Core.Path.{_≡_};
 use builder::Built;
 use builder::CellBuilder;
 use builder::Verdict;
-use libc::STDOUT_FILENO;
 
 const MAX: usize = 18446744073709551615;
 
-fn wide(x: u32) -> usize
-    ensures { λ r. ⌜ r ≡ x ⌝ }
-{
-    x as usize
-}
-
-fn digit(n: u8) -> u8
-    requires { ⌜ n < 16 ⌝ }
-{
-    if n < 10 { b'0' + n } else { b'a' + (n - 10) }
-}
-
-fn show_byte(b: u8) {
-    let digits = [digit(b / 16), digit(b % 16)];
-    io::write_all(STDOUT_FILENO, &digits);
-}
-
-fn show_number(n: usize) {
-    if n >= 10 {
-        show_number(n / 10);
-    }
-    let last = [digit((n % 10) as u8)];
-    io::write_all(STDOUT_FILENO, &last);
-}
-
-fn show_after_space(n: usize) {
-    io::write_all(STDOUT_FILENO, b" ");
-    show_number(n);
-}
-
 fn show_verdict(verdict: Verdict) {
     match verdict {
-        Verdict::Done => {
-            io::write_all(STDOUT_FILENO, b"done");
-        }
-        Verdict::Refused(r) => {
-            io::write_all(STDOUT_FILENO, b"refused");
-            show_after_space(wide(r.number));
-            show_after_space(r.place);
-        }
-    }
-}
-
-fn show_refs(refs: &[u32]) {
-    for k in 0..refs.len() {
-        show_after_space(wide(refs[k]));
-    }
-}
-
-fn show_bytes(bytes: &[u8]) {
-    for i in 0..bytes.len() {
-        show_byte(bytes[i]);
+        Verdict::Done => show::text(b"done"),
+        Verdict::Refused(r) => show::refused(r),
     }
 }
 
 // Writes what a step hands back, and takes the builder out for the next one.
-fn show(built: Built) -> CellBuilder {
+fn show_step(built: Built) -> CellBuilder {
     let verdict = built.verdict;
     show_verdict(verdict);
     let builder = built.builder;
     if builder.exotic {
-        io::write_all(STDOUT_FILENO, b": exotic");
+        show::text(b": exotic");
     } else {
-        io::write_all(STDOUT_FILENO, b": plain");
+        show::text(b": plain");
     }
-    show_after_space(builder.len);
-    show_after_space(builder.count);
+    show::spaced(builder.len);
+    show::spaced(builder.count);
     let refs = builder.refs;
-    show_refs(&refs);
-    io::write_all(STDOUT_FILENO, b" ");
+    show::numbers(&refs);
+    show::text(b" ");
     let bytes = builder.bytes;
-    show_bytes(&bytes);
-    io::write_all(STDOUT_FILENO, b"\n");
+    show::bytes(&bytes);
+    show::end();
     builder
 }
 
@@ -89,45 +38,45 @@ fn show(built: Built) -> CellBuilder {
 fn try_bits() -> CellBuilder {
     let none = [0u8; 0];
     let few = [0xb7u8, 0x0f];
-    let b = show(CellBuilder::new(false).write_bits(0, &none));
-    let b = show(b.write_bits(3, &few));
-    let b = show(b.write_bits(11, &few));
-    let b = show(b.repeat_bit(5, false));
-    let b = show(b.repeat_bit(9, true));
-    show(b.write_bits(16, &few))
+    let b = show_step(CellBuilder::new(false).write_bits(0, &none));
+    let b = show_step(b.write_bits(3, &few));
+    let b = show_step(b.write_bits(11, &few));
+    let b = show_step(b.repeat_bit(5, false));
+    let b = show_step(b.repeat_bit(9, true));
+    show_step(b.write_bits(16, &few))
 }
 
 // The bytes hold fewer bits, or the sum passes 1023; then exactly 1023.
 fn try_limits(b: CellBuilder) -> CellBuilder {
     let few = [0xb7u8, 0x0f];
     let many = [0x5au8; 129];
-    let b = show(b.write_bits(17, &few));
-    let b = show(b.write_bits(MAX, &few));
-    let b = show(b.write_bits(1032, &many));
-    let b = show(b.write_bits(1033, &many));
-    let b = show(b.repeat_bit(MAX, true));
-    let b = show(b.repeat_bit(980, true));
-    show(b.write_bits(979, &many))
+    let b = show_step(b.write_bits(17, &few));
+    let b = show_step(b.write_bits(MAX, &few));
+    let b = show_step(b.write_bits(1032, &many));
+    let b = show_step(b.write_bits(1033, &many));
+    let b = show_step(b.repeat_bit(MAX, true));
+    let b = show_step(b.repeat_bit(980, true));
+    show_step(b.write_bits(979, &many))
 }
 
 // No bit more, no bits at all, and CUT before BITS.
 fn try_full(b: CellBuilder) -> CellBuilder {
     let none = [0u8; 0];
     let few = [0xb7u8, 0x0f];
-    let b = show(b.repeat_bit(1, false));
-    let b = show(b.repeat_bit(0, true));
-    let b = show(b.write_bits(1, &few));
-    let b = show(b.write_bits(0, &none));
-    show(b.write_bits(17, &few))
+    let b = show_step(b.repeat_bit(1, false));
+    let b = show_step(b.repeat_bit(0, true));
+    let b = show_step(b.write_bits(1, &few));
+    let b = show_step(b.write_bits(0, &none));
+    show_step(b.write_bits(17, &few))
 }
 
 // Four references, and a fifth.
 fn try_references(b: CellBuilder) -> CellBuilder {
-    let b = show(b.store_reference(7));
-    let b = show(b.store_reference(0));
-    let b = show(b.store_reference(4294967295));
-    let b = show(b.store_reference(9));
-    show(b.store_reference(10))
+    let b = show_step(b.store_reference(7));
+    let b = show_step(b.store_reference(0));
+    let b = show_step(b.store_reference(4294967295));
+    let b = show_step(b.store_reference(9));
+    show_step(b.store_reference(10))
 }
 
 fn try_chain() -> CellBuilder {
@@ -138,7 +87,7 @@ fn try_chain() -> CellBuilder {
         .repeat_bit(2, true)
         .builder
         .store_reference(3);
-    show(chained)
+    show_step(chained)
 }
 
 // Bits past the length stay as they were.
@@ -151,9 +100,9 @@ fn try_stale() -> CellBuilder {
         count: 1,
         refs: [1, 2, 3, 4],
     };
-    let b = show(stale.repeat_bit(7, false));
-    let b = show(b.write_bits(4, &few));
-    show(b.store_reference(8))
+    let b = show_step(stale.repeat_bit(7, false));
+    let b = show_step(b.write_bits(4, &few));
+    show_step(b.store_reference(8))
 }
 
 // A builder that no steps make.
@@ -166,10 +115,10 @@ fn try_odd() -> CellBuilder {
         count: MAX,
         refs: [0; 4],
     };
-    let b = show(odd.write_bits(0, &none));
-    let b = show(b.write_bits(1, &none));
-    let b = show(b.repeat_bit(MAX, false));
-    show(b.store_reference(5))
+    let b = show_step(odd.write_bits(0, &none));
+    let b = show_step(b.write_bits(1, &none));
+    let b = show_step(b.repeat_bit(MAX, false));
+    show_step(b.store_reference(5))
 }
 
 fn main() {

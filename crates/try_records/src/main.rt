@@ -8,8 +8,6 @@ ghost use lib.ListN.{length, getD, set, take, drop};
 ghost use Rattle.records.specs.Answers.{readOf, addedOf};
 ghost use Rattle.records.specs.Record.{blank, lesserOf, roomFor, exportRecs, importRecs};
 use builder::CellBuilder;
-use libc::STDOUT_FILENO;
-use memory::entry;
 use records::CellRecord;
 use records::RecordAdded;
 use records::RecordRead;
@@ -80,50 +78,14 @@ fn append(mut table: [CellRecord; PLACES], count: usize, r: CellRecord) -> Appen
     Appended { answer, table }
 }
 
-fn write(bytes: &[u8]) {
-    io::write_all(STDOUT_FILENO, bytes);
+fn show_refused(r: Refusal) {
+    show::refused(r);
+    show::end();
 }
 
-// The last digit of a number.
-fn digit(n: usize) {
-    write(&[b'0' + (n % 10) as u8]);
-}
-
-// A number below 1,000.
-fn number(n: usize) {
-    if n > 99 {
-        digit(n / 100);
-    }
-    if n > 9 {
-        digit(n / 10);
-    }
-    digit(n);
-}
-
-fn space() {
-    write(b" ");
-}
-
-fn end() {
-    write(b"\n");
-}
-
-fn refused(r: Refusal) {
-    write(b"refused ");
-    number(r.number as usize);
-    space();
-    number(r.place);
-    end();
-}
-
-fn show_numbers(xs: &[u32]) {
-    let mut k = 0;
-    while k < xs.len() {
-        space();
-        number(entry(xs, k));
-        k += 1;
-    }
-    end();
+fn show_line(xs: &[u32]) {
+    show::numbers(xs);
+    show::end();
 }
 
 fn same(a: &[u32], b: &[u32]) -> bool
@@ -143,23 +105,21 @@ fn same(a: &[u32], b: &[u32]) -> bool
 }
 
 fn try_clear(count: &mut usize, table: &mut [u32], bytes: &mut [u8]) {
-    write(b"clear: ");
+    show::text(b"clear: ");
     match store::clear(count, table, bytes) {
-        Cleared::Done => {
-            write(b"done\n");
-        }
-        Cleared::Refused(r) => refused(r),
+        Cleared::Done => show::text(b"done\n"),
+        Cleared::Refused(r) => show_refused(r),
     }
 }
 
 fn try_add(count: &mut usize, table: &mut [u32], bytes: &mut [u8], cell: CellBuilder) {
-    write(b"add: ");
+    show::text(b"add: ");
     match store::add(count, table, bytes, cell) {
         Added::Number(n) => {
-            number(n);
-            end();
+            show::number(n);
+            show::end();
         }
-        Added::Refused(r) => refused(r),
+        Added::Refused(r) => show_refused(r),
     }
 }
 
@@ -188,63 +148,63 @@ fn adds(count: &mut usize, table: &mut [u32], bytes: &mut [u8]) {
 }
 
 fn show_record(r: CellRecord) {
-    show_numbers(&[r.exotic, r.len, r.refs, r.r0, r.r1, r.r2, r.r3]);
+    show_line(&[r.exotic, r.len, r.refs, r.r0, r.r1, r.r2, r.r3]);
 }
 
 fn try_read(table: [CellRecord; PLACES], n: usize, count: usize) {
-    write(b"record ");
-    number(n);
-    write(b" of ");
-    number(count);
-    write(b":");
+    show::text(b"record ");
+    show::number(n);
+    show::text(b" of ");
+    show::number(count);
+    show::text(b":");
     match read(table, n, count) {
         RecordRead::Record(r) => show_record(r),
         RecordRead::Refused(r) => {
-            space();
-            refused(r);
+            show::text(b" ");
+            show_refused(r);
         }
     }
 }
 
 fn try_export(flat: &[u32], n: usize, table: [CellRecord; PLACES]) -> [CellRecord; PLACES] {
     let exported = export(flat, n, table);
-    write(b"export ");
-    number(n);
-    write(b": ");
-    number(exported.count);
-    end();
+    show::text(b"export ");
+    show::number(n);
+    show::text(b": ");
+    show::number(exported.count);
+    show::end();
     exported.table
 }
 
 fn try_append(table: [CellRecord; PLACES], count: usize, r: CellRecord) -> [CellRecord; PLACES] {
     let appended = append(table, count, r);
     let answer = appended.answer;
-    write(b"append: ");
+    show::text(b"append: ");
     match answer {
         RecordAdded::Number(n) => {
-            number(n);
-            end();
+            show::number(n);
+            show::end();
         }
-        RecordAdded::Refused(refusal) => refused(refusal),
+        RecordAdded::Refused(refusal) => show_refused(refusal),
     }
     appended.table
 }
 
 fn try_import(table: [CellRecord; PLACES], n: usize, flat: &mut [u32]) {
-    write(b"import ");
-    number(n);
-    write(b": ");
-    number(import(table, n, flat));
-    end();
-    write(b"flat:");
-    show_numbers(flat);
+    show::text(b"import ");
+    show::number(n);
+    show::text(b": ");
+    show::number(import(table, n, flat));
+    show::end();
+    show::text(b"flat:");
+    show_line(flat);
 }
 
 fn compare(a: &[u32], b: &[u32]) {
     if same(a, b) {
-        write(b"the same\n");
+        show::text(b"the same\n");
     } else {
-        write(b"not the same\n");
+        show::text(b"not the same\n");
     }
 }
 
@@ -265,16 +225,16 @@ fn blanks() -> [CellRecord; PLACES] {
 }
 
 fn try_cell(count: usize, table: &[u32], bytes: &[u8], n: usize) {
-    write(b"cell ");
-    number(n);
-    write(b": ");
+    show::text(b"cell ");
+    show::number(n);
+    show::text(b": ");
     match store::cell(count, table, bytes, n) {
         Asked::Cell(head) => {
-            number(head.len);
-            write(b" bits,");
-            show_numbers(&[head.r0, head.r1, head.r2, head.r3]);
+            show::number(head.len);
+            show::text(b" bits,");
+            show_line(&[head.r0, head.r1, head.r2, head.r3]);
         }
-        Asked::Refused(r) => refused(r),
+        Asked::Refused(r) => show_refused(r),
     }
 }
 
@@ -296,13 +256,13 @@ fn round_trip(count: usize, flat: &[u32]) -> [CellRecord; PLACES] {
     try_read(table, 2, count);
     try_read(table, count, count);
     let mut again = [0u32; NUMBERS];
-    write(b"there and back ");
-    number(count);
-    write(b": ");
-    number(there_and_back(flat, count, &mut again));
-    end();
-    write(b"flat:");
-    show_numbers(&again);
+    show::text(b"there and back ");
+    show::number(count);
+    show::text(b": ");
+    show::number(there_and_back(flat, count, &mut again));
+    show::end();
+    show::text(b"flat:");
+    show_line(&again);
     compare(flat, &again);
     table
 }
@@ -335,11 +295,11 @@ fn main() {
     let mut bytes = [3u8; BYTES];
     try_clear(&mut count, &mut flat, &mut bytes);
     adds(&mut count, &mut flat, &mut bytes);
-    write(b"flat:");
-    show_numbers(&flat);
-    write(b"places: ");
-    number(places(blanks()));
-    end();
+    show::text(b"flat:");
+    show_line(&flat);
+    show::text(b"places: ");
+    show::number(places(blanks()));
+    show::end();
     let table = round_trip(count, &flat);
     grow(count, &flat, &bytes, table);
     short(&flat);

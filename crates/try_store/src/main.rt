@@ -1,111 +1,57 @@
 // Runs the store on real memory: clear, add (a new cell, a held one, each refusal), cell and its data; a batch.
 use add_many::AddedMany;
 use builder::CellBuilder;
-use memory::entry;
-use scheme::Refusal;
 use store::Added;
 use store::Asked;
 use store::Cleared;
 
-fn digit(d: usize) {
-    io::write_all(1, &[(48 + d % 10) as u8]);
-}
-
-// A number below 10,000.
-fn number(n: usize) {
-    if n > 999 {
-        digit(n / 1000);
-    }
-    if n > 99 {
-        digit(n / 100);
-    }
-    if n > 9 {
-        digit(n / 10);
-    }
-    digit(n);
-}
-
-fn space() {
-    io::write_all(1, b" ");
-}
-
-fn refused(r: Refusal) {
-    io::write_all(1, b"refused ");
-    number(r.number as usize);
-    space();
-    number(r.place);
-}
-
 fn after(count: usize) {
-    io::write_all(1, b", count ");
-    number(count);
-    io::write_all(1, b"\n");
+    show::text(b", count ");
+    show::number(count);
+    show::end();
 }
 
 fn try_clear(count: &mut usize, table: &mut [u32], bytes: &mut [u8]) {
-    io::write_all(1, b"clear: ");
+    show::text(b"clear: ");
     match store::clear(count, table, bytes) {
-        Cleared::Done => {
-            io::write_all(1, b"done");
-        }
-        Cleared::Refused(r) => refused(r),
+        Cleared::Done => show::text(b"done"),
+        Cleared::Refused(r) => show::refused(r),
     }
     after(*count);
 }
 
 fn try_add(count: &mut usize, table: &mut [u32], bytes: &mut [u8], cell: CellBuilder) {
-    io::write_all(1, b"add: ");
+    show::text(b"add: ");
     match store::add(count, table, bytes, cell) {
         Added::Number(n) => {
-            io::write_all(1, b"number ");
-            number(n);
+            show::text(b"number ");
+            show::number(n);
         }
-        Added::Refused(r) => refused(r),
+        Added::Refused(r) => show::refused(r),
     }
     after(*count);
 }
 
-fn hex(d: u8) {
-    let letters = b"0123456789ABCDEF";
-    io::write_all(1, &[letters[(d % 16) as usize]]);
-}
-
-fn show(bytes: &[u8]) {
-    let mut k = 0;
-    while k < bytes.len() {
-        let b = bytes[k];
-        hex(b / 16);
-        hex(b % 16);
-        k += 1;
-    }
-}
-
 fn try_cell(count: usize, table: &[u32], bytes: &[u8], n: usize) {
-    io::write_all(1, b"cell ");
-    number(n);
-    io::write_all(1, b": ");
+    show::text(b"cell ");
+    show::number(n);
+    show::text(b": ");
     match store::cell(count, table, bytes, n) {
         Asked::Cell(head) => {
             if head.exotic {
-                io::write_all(1, b"exotic ");
+                show::text(b"exotic ");
             }
-            number(head.len);
-            io::write_all(1, b" bits, ");
-            number(head.count);
-            io::write_all(1, b" references ");
-            number(head.r0 as usize);
-            space();
-            number(head.r1 as usize);
-            space();
-            number(head.r2 as usize);
-            space();
-            number(head.r3 as usize);
+            show::number(head.len);
+            show::text(b" bits, ");
+            show::number(head.count);
+            show::text(b" references");
+            show::numbers(&[head.r0, head.r1, head.r2, head.r3]);
         }
-        Asked::Refused(r) => refused(r),
+        Asked::Refused(r) => show::refused(r),
     }
-    io::write_all(1, b", data ");
-    show(store::cell_data(count, table, bytes, n));
-    io::write_all(1, b"\n");
+    show::text(b", data ");
+    show::bytes(store::cell_data(count, table, bytes, n));
+    show::end();
 }
 
 // A cell whose first two data bytes and references are given, and whose other bytes are all ones.
@@ -208,34 +154,23 @@ fn asks(count: usize, table: &[u32], bytes: &[u8]) {
     try_cell(count, table, bytes, 3);
 }
 
-fn show_numbers(xs: &[u32]) {
-    let mut k = 0;
-    while k < xs.len() {
-        space();
-        number(entry(xs, k));
-        k += 1;
-    }
-}
-
 fn try_many(count: &mut usize, table: &mut [u32], bytes: &mut [u8], heads: &[u32]) {
     let mut blocks = [255u8; 384];
     blocks[0] = 171;
     blocks[128] = 207;
     let mut numbers = [99u32; 4];
-    io::write_all(1, b"many: ");
+    show::text(b"many: ");
     match add_many::add_many(count, table, bytes, heads, &blocks, &mut numbers) {
-        AddedMany::All => {
-            io::write_all(1, b"all");
-        }
+        AddedMany::All => show::text(b"all"),
         AddedMany::Refused(stopped) => {
-            io::write_all(1, b"cell ");
-            number(stopped.cell);
-            space();
-            refused(stopped.refusal);
+            show::text(b"cell ");
+            show::number(stopped.cell);
+            show::text(b" ");
+            show::refused(stopped.refusal);
         }
     }
-    io::write_all(1, b", numbers");
-    show_numbers(&numbers);
+    show::text(b", numbers");
+    show::numbers(&numbers);
     after(*count);
 }
 

@@ -2,7 +2,6 @@
 use builder::CellBuilder;
 use depth::Depth;
 use scheme::MAX_CELLS;
-use scheme::Refusal;
 use store::Added;
 use text::Text;
 
@@ -17,37 +16,6 @@ const ROOM: usize = 2821;
 // The cells that refer to the one before twice.
 const TWICE: u32 = 16;
 
-fn digit(d: usize) {
-    io::write_all(1, &[(48 + d % 10) as u8]);
-}
-
-// A number below 1,000,000.
-fn number(n: usize) {
-    if n > 99999 {
-        digit(n / 100000);
-    }
-    if n > 9999 {
-        digit(n / 10000);
-    }
-    if n > 999 {
-        digit(n / 1000);
-    }
-    if n > 99 {
-        digit(n / 100);
-    }
-    if n > 9 {
-        digit(n / 10);
-    }
-    digit(n);
-}
-
-fn refused(r: Refusal) {
-    io::write_all(1, b"refused ");
-    number(r.number as usize);
-    io::write_all(1, b" ");
-    number(r.place);
-}
-
 fn add(count: &mut usize, table: &mut [u32], bytes: &mut [u8], cell: CellBuilder) -> u32 {
     match store::add(count, table, bytes, cell) {
         Added::Number(n) => {
@@ -57,7 +25,7 @@ fn add(count: &mut usize, table: &mut [u32], bytes: &mut [u8], cell: CellBuilder
             0
         }
         Added::Refused(r) => {
-            refused(r);
+            show::refused(r);
             0
         }
     }
@@ -108,7 +76,7 @@ fn try_text(
     }
     let mut scratch = [0u32; ENTRIES];
     let mut out = [0u8; ROOM];
-    io::write_all(1, b"text: ");
+    show::text(b"text: ");
     match text::debug_text(
         count,
         table,
@@ -119,14 +87,14 @@ fn try_text(
         &mut out[..room],
     ) {
         Text::Printed(p) => {
-            io::write_all(1, b"bytes ");
-            number(p.written);
-            io::write_all(1, b", cells ");
-            number(p.cells);
+            show::text(b"bytes ");
+            show::number(p.written);
+            show::text(b", cells ");
+            show::number(p.cells);
         }
-        Text::Refused(r) => refused(r),
+        Text::Refused(r) => show::refused(r),
     }
-    io::write_all(1, b"\n");
+    show::end();
 }
 
 fn try_depth(count: usize, table: &[u32], bytes: &[u8], n: usize, entries: usize) {
@@ -134,12 +102,12 @@ fn try_depth(count: usize, table: &[u32], bytes: &[u8], n: usize, entries: usize
         return;
     }
     let mut scratch = [0u32; ENTRIES];
-    io::write_all(1, b"depth: ");
+    show::text(b"depth: ");
     match depth::max_depth(count, table, bytes, n, &mut scratch[..entries]) {
-        Depth::Levels(d) => number(d),
-        Depth::Refused(r) => refused(r),
+        Depth::Levels(d) => show::number(d),
+        Depth::Refused(r) => show::refused(r),
     }
-    io::write_all(1, b"\n");
+    show::end();
 }
 
 // A pruned branch of one level that names the greatest depth.
@@ -162,8 +130,8 @@ fn run(
     branch: usize,
     above: usize,
 ) {
-    number(count);
-    io::write_all(1, b" cells\n");
+    show::number(count);
+    show::text(b" cells\n");
     try_text(count, table, bytes, 256, 1000, ENTRIES, ROOM);
     try_text(count, table, bytes, path, 1000, ENTRIES, ROOM);
     try_text(count, table, bytes, 256, 257, ENTRIES, ROOM);

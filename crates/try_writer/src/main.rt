@@ -1,9 +1,7 @@
 // Writes bags from stores that stand in memory and prints each outcome: the answer, the bytes in hex (of a long bag its first bytes, the
 // CRC-32C of all and the last bytes), whether the scratch is all 0, and whether the output past the bag is as it was. Each bag is then read into an
 // empty store and written from there: printed are the counts of the read, and whether the bytes are the same.
-ghost use Prim.Native.Nat.{_<_};
 use crc32c::crc32c;
-use libc::STDOUT_FILENO;
 use reader::ReadAnswer;
 use scheme::DATA_LEN;
 use scheme::MAX_CELLS;
@@ -27,54 +25,6 @@ const TAIL: usize = 4;
 const USED: u32 = 7;
 
 const BEFORE: u8 = 0xee;
-
-fn digit(n: u8) -> u8
-    requires { ⌜ n < 16 ⌝ }
-{
-    if n < 10 { b'0' + n } else { b'a' + (n - 10) }
-}
-
-fn show_text(text: &[u8]) {
-    io::write_all(STDOUT_FILENO, text);
-}
-
-fn show_byte(b: u8) {
-    let digits = [digit(b / 16), digit(b % 16)];
-    show_text(&digits);
-}
-
-fn show_bytes(bytes: &[u8]) {
-    for i in 0..bytes.len() {
-        show_byte(bytes[i]);
-    }
-}
-
-fn show_word(n: u32) {
-    show_byte((n / 16777216) as u8);
-    show_byte((n / 65536 % 256) as u8);
-    show_byte((n / 256 % 256) as u8);
-    show_byte((n % 256) as u8);
-}
-
-// The last digit of n, unless it and all before it are 0.
-fn show_digit(n: usize) {
-    if n > 0 {
-        let last = [digit((n % 10) as u8)];
-        show_text(&last);
-    }
-}
-
-// A number below 1,000,000.
-fn show_number(n: usize) {
-    show_text(b" ");
-    show_digit(n / 100000);
-    show_digit(n / 10000);
-    show_digit(n / 1000);
-    show_digit(n / 100);
-    show_digit(n / 10);
-    let last = [digit((n % 10) as u8)];
-    show_text(&last);
-}
 
 fn wide(x: u32) -> usize {
     x as usize
@@ -142,9 +92,9 @@ fn all_kept(xs: &[u8]) -> bool {
 
 fn show_kept(xs: &[u8]) {
     if all_kept(xs) {
-        show_text(b" kept");
+        show::text(b" kept");
     } else {
-        show_text(b" CHANGED");
+        show::text(b" CHANGED");
     }
 }
 
@@ -153,13 +103,13 @@ fn show_long(bag: &[u8]) {
     if bag.len() < HEAD {
         return;
     }
-    show_text(b" ");
-    show_bytes(&bag[..HEAD]);
-    show_text(b" ");
-    show_word(crc32c(bag));
-    show_text(b" ");
+    show::text(b" ");
+    show::bytes(&bag[..HEAD]);
+    show::text(b" ");
+    show::word(crc32c(bag));
+    show::text(b" ");
     let from = bag.len() - TAIL;
-    show_bytes(&bag[from..]);
+    show::bytes(&bag[from..]);
 }
 
 fn with(has_idx: bool, has_crc32c: bool) -> BagOfCellsArgs {
@@ -183,9 +133,9 @@ fn show_same(bag: &[u8], out: &[u8], long: usize) {
         return;
     }
     if check::same(bag, &out[..long]) {
-        show_text(b" same");
+        show::text(b" same");
     } else {
-        show_text(b" other");
+        show::text(b" other");
     }
 }
 
@@ -199,9 +149,7 @@ fn write_again(bag: &[u8], count: usize, table: &[u32], bytes: &[u8], n: usize) 
         Wrote::Bytes(long) => {
             show_same(bag, &out, long);
         }
-        Wrote::Refused(refusal) => {
-            show_number(wide(refusal.number));
-        }
+        Wrote::Refused(refusal) => show::spaced(wide(refusal.number)),
     }
 }
 
@@ -213,17 +161,17 @@ fn read_into(bag: &[u8], table: &mut [u32], bytes: &mut [u8]) {
     let r = reader::unpack_fully(bag, &mut count, table, bytes, &mut scratch, &mut roots);
     match r {
         ReadAnswer::Done(counts) => {
-            show_text(b" read");
-            show_number(counts.used);
-            show_number(counts.cells);
-            show_number(counts.roots);
-            show_number(counts.added);
+            show::text(b" read");
+            show::spaced(counts.used);
+            show::spaced(counts.cells);
+            show::spaced(counts.roots);
+            show::spaced(counts.added);
             write_again(bag, count, table, bytes, wide(roots[0]));
         }
         ReadAnswer::Refused(refusal) => {
-            show_text(b" refused");
-            show_number(wide(refusal.number));
-            show_number(refusal.place);
+            show::text(b" refused");
+            show::spaced(wide(refusal.number));
+            show::spaced(refusal.place);
         }
     }
 }
@@ -247,8 +195,8 @@ fn show_bag(out: &[u8], n: usize) {
     }
     let bag = &out[..n];
     if n <= SHORT {
-        show_text(b" ");
-        show_bytes(bag);
+        show::text(b" ");
+        show::bytes(bag);
         read_short(bag);
     } else {
         show_long(bag);
@@ -260,21 +208,21 @@ fn show_bag(out: &[u8], n: usize) {
 fn show_outcome(r: Wrote, scratch: &[u32], out: &[u8]) {
     match r {
         Wrote::Bytes(n) => {
-            show_text(b" ok");
-            show_number(n);
+            show::text(b" ok");
+            show::spaced(n);
             show_bag(out, n);
         }
         Wrote::Refused(refusal) => {
-            show_text(b" refused");
-            show_number(wide(refusal.number));
-            show_number(refusal.place);
+            show::text(b" refused");
+            show::spaced(wide(refusal.number));
+            show::spaced(refusal.place);
             show_kept(out);
         }
     }
     if all_zero(scratch) {
-        show_text(b" zeroed\n");
+        show::text(b" zeroed\n");
     } else {
-        show_text(b" LEFT\n");
+        show::text(b" LEFT\n");
     }
 }
 
@@ -351,7 +299,7 @@ fn write(name: &[u8], count: usize, table: &[u32], bytes: &[u8], n: usize, args:
     if count > ROOM {
         return;
     }
-    show_text(name);
+    show::text(name);
     write_within(count, table, bytes, n, args, 4 * count, OUT);
 }
 
@@ -380,17 +328,17 @@ fn set_bytes(bytes: &mut [u8], i: usize, count: usize, b: u8) {
 // The cell of 32 bits, and each refusal, in their order.
 fn write_number(table: &[u32], bytes: &[u8]) {
     write_all(b"number", 1, table, bytes, 0);
-    show_text(b"just enough");
+    show::text(b"just enough");
     write_within(1, table, bytes, 0, with(false, false), 4, 17);
-    show_text(b"room");
+    show::text(b"room");
     write_within(1, table, bytes, 0, with(false, false), 4, 16);
-    show_text(b"room");
+    show::text(b"room");
     write_within(1, table, bytes, 0, with(true, true), 4, 0);
-    show_text(b"scratch");
+    show::text(b"scratch");
     write_within(1, table, bytes, 0, with(false, false), 3, 0);
-    show_text(b"cell");
+    show::text(b"cell");
     write_within(1, table, bytes, 1, with(false, false), 0, 0);
-    show_text(b"store");
+    show::text(b"store");
     write_within(3, table, bytes, 4, with(false, false), 5, 5);
 }
 

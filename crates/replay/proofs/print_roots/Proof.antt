@@ -1,51 +1,22 @@
--- `replay::print_roots` is safe and ends. Assumes nothing.
-use Prim.Native.Nat.{_≤_, _-_}
-use native.Mathlib.Omega.{arith}
+-- `replay::print_roots` is safe: the roots are inside the places. Assumes nothing.
+use mathlib.Core.Path.{sym}
+use lib.Seq.{length-take-le}
 use borrow.Author.Needs.{needs}
 use Rattle.replay.proofs.print_roots.Statement.{statement}
 use Rattle.replay.proofs.print_roots.Tie as tie
 
-abbrev Inv-loop : tie.InvT-loop
-Inv-loop roots n most i₀ i = i ≤ most
-
-abbrev μ-loop : tie.MeasureT-loop
-μ-loop roots n most i₀ i = most - i
-
-least-requires : tie.Need-least-requires Inv-loop μ-loop
+least-requires : tie.Need-least-requires
 least-requires c κs = search needs
 
-loop-holds : tie.Need-loop-holds Inv-loop μ-loop
-loop-holds c = omega arith
+slice-aggregate-numbers : tie.Need-slice-aggregate-numbers
+slice-aggregate-numbers c = sym (length-take-le _ (c .before .before .before .args .roots .now) (c .before .least .ensures))
 
-entry-requires : tie.Need-entry-requires Inv-loop μ-loop
-entry-requires c κs = search needs
+numbers-requires : tie.Need-numbers-requires
+numbers-requires c κs = search needs
 
-spaced-requires : tie.Need-spaced-requires Inv-loop μ-loop
-spaced-requires c κs = search needs
-
-add-i : tie.Need-add-i Inv-loop μ-loop
-add-i c = omega arith
-
-loop-less : tie.Need-loop-less Inv-loop μ-loop
-loop-less c = omega arith
-
-loop-again : tie.Need-loop-again Inv-loop μ-loop
-loop-again c = omega arith
-
-returns : tie.Need-returns Inv-loop μ-loop
+returns : tie.Need-returns
 returns c = search needs
 
 pub print-roots-spec : {M : Type 1} → statement M
 print-roots-spec =
-    tie.close
-    (tie.spec
-    Inv-loop
-    μ-loop
-    least-requires
-    loop-holds
-    entry-requires
-    spaced-requires
-    add-i
-    loop-less
-    loop-again
-    returns)
+    tie.close (tie.spec least-requires slice-aggregate-numbers numbers-requires returns)

@@ -12,14 +12,14 @@ returns c = search needs
 slice-aggregate-bag : tie.Need-slice-aggregate-bag
 slice-aggregate-bag c = let s : tie.Start = search needs in sym (length-take-le (s .args .n) (s .args .out .now) (omega arith))
 
-slice-aggregate-show-text : tie.Need-slice-aggregate-show-text
-slice-aggregate-show-text c = search needs
+slice-aggregate-text : tie.Need-slice-aggregate-text
+slice-aggregate-text c = search needs
 
-show-text-requires : tie.Need-show-text-requires
-show-text-requires c κs = search needs
+text-requires : tie.Need-text-requires
+text-requires c κs = search needs
 
-show-bytes-requires : tie.Need-show-bytes-requires
-show-bytes-requires c κs = search needs
+bytes-requires : tie.Need-bytes-requires
+bytes-requires c κs = search needs
 
 read-short-requires : tie.Need-read-short-requires
 read-short-requires c κs = search needs
@@ -51,9 +51,9 @@ show-bag-spec =
     (tie.spec
     returns
     slice-aggregate-bag
-    slice-aggregate-show-text
-    show-text-requires
-    show-bytes-requires
+    slice-aggregate-text
+    text-requires
+    bytes-requires
     read-short-requires
     show-long-requires
     read-long-requires

@@ -15,17 +15,17 @@ slice-aggregate-same c = let s : tie.Start = search needs in sym (length-take-le
 same-requires : tie.Need-same-requires
 same-requires c κs = search needs
 
-slice-aggregate-show-text : tie.Need-slice-aggregate-show-text
-slice-aggregate-show-text c = search needs
+slice-aggregate-text : tie.Need-slice-aggregate-text
+slice-aggregate-text c = search needs
 
-show-text-requires : tie.Need-show-text-requires
-show-text-requires c κs = search needs
+text-requires : tie.Need-text-requires
+text-requires c κs = search needs
 
-slice-aggregate-show-text-2 : tie.Need-slice-aggregate-show-text-2
-slice-aggregate-show-text-2 c = search needs
+slice-aggregate-text-2 : tie.Need-slice-aggregate-text-2
+slice-aggregate-text-2 c = search needs
 
-show-text-requires-2 : tie.Need-show-text-requires-2
-show-text-requires-2 c κs = search needs
+text-requires-2 : tie.Need-text-requires-2
+text-requires-2 c κs = search needs
 
 returns-2 : tie.Need-returns-2
 returns-2 c = search needs
@@ -40,9 +40,9 @@ show-same-spec =
     returns
     slice-aggregate-same
     same-requires
-    slice-aggregate-show-text
-    show-text-requires
-    slice-aggregate-show-text-2
-    show-text-requires-2
+    slice-aggregate-text
+    text-requires
+    slice-aggregate-text-2
+    text-requires-2
     returns-2
     returns-3)

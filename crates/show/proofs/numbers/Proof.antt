@@ -1,25 +1,28 @@
--- `try_builder::show_bytes` ends. Assumes nothing.
+-- `show::numbers` ends. Assumes nothing.
 use mathlib.Core.Path.{_≡_}
 use Prim.Native.Nat.{_-_}
 use lib.ListN.{length}
 use borrow.Author.Needs.{needs}
-use Rattle.try_builder.proofs.show_bytes.Statement.{statement}
-use Rattle.try_builder.proofs.show_bytes.Tie as tie
+use Rattle.show.proofs.numbers.Statement.{statement}
+use Rattle.show.proofs.numbers.Tie as tie
 
 abbrev Inv-loop : tie.InvT-loop
-Inv-loop bytes i₀ i-end i = i-end ≡ length bytes
+Inv-loop xs i₀ i-end i = i-end ≡ length xs
 
 abbrev μ-loop : tie.MeasureT-loop
-μ-loop bytes i₀ i-end i = i-end - i
+μ-loop xs i₀ i-end i = i-end - i
 
 loop-holds : tie.Need-loop-holds Inv-loop μ-loop
 loop-holds c = search needs
 
-shared-slice-read-show-byte : tie.Need-shared-slice-read-show-byte Inv-loop μ-loop
-shared-slice-read-show-byte c = search needs
+mul-entry : tie.Need-mul-entry Inv-loop μ-loop
+mul-entry c = search needs
 
-show-byte-requires : tie.Need-show-byte-requires Inv-loop μ-loop
-show-byte-requires c κs = search needs
+shared-slice-read-entry : tie.Need-shared-slice-read-entry Inv-loop μ-loop
+shared-slice-read-entry c = search needs
+
+entry-requires : tie.Need-entry-requires Inv-loop μ-loop
+entry-requires c κs = search needs
 
 add-i : tie.Need-add-i Inv-loop μ-loop
 add-i c = search needs
@@ -33,15 +36,16 @@ loop-again c = search needs
 returns : tie.Need-returns Inv-loop μ-loop
 returns c = search needs
 
-pub show-bytes-spec : {M : Type 1} → statement M
-show-bytes-spec =
+pub numbers-spec : {M : Type 1} → statement M
+numbers-spec =
     tie.close
     (tie.spec
     Inv-loop
     μ-loop
     loop-holds
-    shared-slice-read-show-byte
-    show-byte-requires
+    mul-entry
+    shared-slice-read-entry
+    entry-requires
     add-i
     loop-less
     loop-again
