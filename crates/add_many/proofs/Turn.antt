@@ -8,6 +8,7 @@ use native.Mathlib.Omega.{arith}
 use lib.ListN.{length, getD, take, drop, set, length-take, length-drop}
 use lib.Dec.{eqb, leb, ltb}
 use borrow.Author.Tests.{ltb-true, ltb-false}
+use Rattle.scheme.specs.Refusals.{STORE, REFS, FULL, BITS}
 use Rattle.scheme.specs.declared.Refusal.{Refusal}
 use Rattle.scheme.specs.Res.{Res, bad, ok, then, check, refusal}
 use Rattle.scheme.specs.Cells.{find, insert}
@@ -78,10 +79,10 @@ cells-fit a b c k e =
 number-small : (cap n : ℕ) (t d : List ℕ) (b : Builder) (x : Added) → add cap (cellsOf n t d) b ≡ ok x → sound n t d ≡ true → x .number ≤ 4096
 unfolding add
 number-small cap n t d b x e s =
-    then-use (check (leb (b .len) 1023) (refusal 21 0)) _ _ e λ u₁ x₁ e₁.
-    then-use (check (leb (b .count) 4) (refusal 11 0)) _ _ e₁ λ u₂ x₂ e₂.
+    then-use (check (leb (b .len) 1023) (refusal BITS 0)) _ _ e λ u₁ x₁ e₁.
+    then-use (check (leb (b .count) 4) (refusal REFS 0)) _ _ e₁ λ u₂ x₂ e₂.
     then-use (refsHeld 0 (length (cellsOf n t d)) (take (b .count) (b .refs))) _ _ e₂ λ u₃ x₃ e₃.
-    then-use (check (leb (length (insert (cellsOf n t d) (cellIn b))) cap) (refusal 18 0)) _ _ e₃ λ u₄ x₄ e₄.
+    then-use (check (leb (length (insert (cellsOf n t d) (cellIn b))) cap) (refusal FULL 0)) _ _ e₃ λ u₄ x₄ e₄.
     let y : find (cellsOf n t d) (cellIn b) ≡ x .number = cc in
     omega (arith, find-le (cellsOf n t d) (cellIn b), cells-length n t d, sound-few n t d s)
 
@@ -123,7 +124,7 @@ module _ (hs ds : List ℕ) (k i n : ℕ) (t d xs : List ℕ) (X : ManyOut) (h :
     pub turn-small : sound n t d ≡ true → m ≤ 4096
     unfolding adding held
     turn-small s = go (add (capacity t) (cellsOf n t d) (builderAt hs ds i)) refl (a .answer ∙ ap
-        (λ (b : Bool). (addOut n t d (then (then (check b (refusal 1 0)) (λ _. ok (cellsOf n t d))) λ c. add (capacity t) c (builderAt hs ds i))) .answer) s)
+        (λ (b : Bool). (addOut n t d (then (then (check b (refusal STORE 0)) (λ _. ok (cellsOf n t d))) λ c. add (capacity t) c (builderAt hs ds i))) .answer) s)
       where
         go : (r : Res Added) → add (capacity t) (cellsOf n t d) (builderAt hs ds i) ≡ r → ok m ≡ (addOut n t d r) .answer → m ≤ 4096
         go (bad b) e z = absurd (let y : _≡_ {A = ℕ} 0 1 = cc in omega arith)
@@ -166,11 +167,11 @@ module _ (hs ds : List ℕ) (k n : ℕ) (t d xs : List ℕ) where
   unfolding many
   many-none e = many-is added.All n t d xs (sym (ap (λ (j : ℕ). many hs ds j 0 n t d xs) e))
 
-  pub many-store : (k ≡ 0 → ⊥) → sound n t d ≡ false → AddsMany hs ds k n t d xs (added.Refused (record { cell = 0; refusal = refusal 1 0 })) n t d xs
+  pub many-store : (k ≡ 0 → ⊥) → sound n t d ≡ false → AddsMany hs ds k n t d xs (added.Refused (record { cell = 0; refusal = refusal STORE 0 })) n t d xs
   unfolding many adding held
   many-store h s =
       let z : k ≡ suc (k - 1) = omega arith in
-      many-is (added.Refused (record { cell = 0; refusal = refusal 1 0 })) n t d xs (rw (z, s))
+      many-is (added.Refused (record { cell = 0; refusal = refusal STORE 0 })) n t d xs (rw (z, s))
 
 -- by another name of k
 pub many-as : (hs ds : List ℕ) (k j n : ℕ) (t d xs : List ℕ) (r : AddedMany) (n′ : ℕ) (t′ d′ xs′ : List ℕ) → k ≡ j → AddsMany hs ds k n t d xs r n′ t′ d′ xs′

@@ -55,7 +55,7 @@ fn cell_at(heads: &[u32], blocks: &[u8], i: usize) -> CellBuilder
     let row = i * RECORD_LEN;
     let from = i * DATA_LEN;
     let to = from + DATA_LEN;
-    let mut bytes = [0u8; 128];
+    let mut bytes = [0u8; DATA_LEN];
     put_bytes(&blocks[from..to], &mut bytes, 0);
     CellBuilder {
         exotic: heads[row] != 0,

@@ -7,7 +7,7 @@ use native.Mathlib.Omega.{arith}
 use lib.ListN.{length, take, drop, getD}
 use lib.Seq.{drop-cons}
 use borrow.Author.Tests.{eq-eqb, ne-eqb}
-use Rattle.scheme.specs.Refusals.{CRC}
+use Rattle.scheme.specs.Refusals.{CUT, CRC}
 use Rattle.scheme.specs.Res.{bad, ok, refusal}
 use Rattle.scheme.specs.declared.Refusal.{Refusal}
 use Rattle.scheme.specs.Bytes.{unle}
@@ -26,7 +26,7 @@ module _ (b : List ℕ) (p : ℕ) (checked : Bool) where
   crc-cut r e s =
       chunk-cases b p 4
       (λ h g. let z : _≡_ {A = ℕ} 0 1 = cc in absurd (omega arith))
-      (λ h g. let q : r ≡ refusal 2 p = cc in rw (e, g, q))
+      (λ h g. let q : r ≡ refusal CUT p = cc in rw (e, g, q))
 
   module _ (q : ℕ) (e : checked ≡ true) (s : skipAt b p 4 ≡ ok q) where
     pub crc-differs : (unle (take 4 (drop p b)) ≡ crcOf (take p b) → ⊥) → bad (refusal CRC p) ≡ checksum checked b p

@@ -9,6 +9,7 @@ use lib.ListN.{length, take, drop, getD, length-drop}
 use lib.Seq.{length-take-le, drop-cons, drop-drop, take-nil}
 use lib.Dec.{leb}
 use borrow.Author.Tests.{leb-true, leb-false, le-leb, lt-leb}
+use Rattle.scheme.specs.Refusals.{CUT}
 use Rattle.scheme.specs.Res.{Res, bad, ok, then, refusal}
 use Rattle.scheme.specs.declared.Refusal.{Refusal}
 use Rattle.scheme.specs.Bytes.{unbe, chunk, field, fields}
@@ -20,7 +21,7 @@ pub chunk-whole : (b : List ℕ) (p n : ℕ) → p + n ≤ length b → chunk b 
 unfolding chunk
 chunk-whole b p n h = rw (le-leb _ _ h)
 
-pub chunk-cut : (b : List ℕ) (p n : ℕ) → length b < p + n → chunk b p n ≡ bad (refusal 2 p)
+pub chunk-cut : (b : List ℕ) (p n : ℕ) → length b < p + n → chunk b p n ≡ bad (refusal CUT p)
 unfolding chunk
 chunk-cut b p n h = rw (lt-leb _ _ h)
 
@@ -28,7 +29,7 @@ ok-inj : {A : Type 0} (x y : A) → ok x ≡ ok y → x ≡ y
 ok-inj x y e = cc
 
 -- by cases: whole or cut
-pub chunk-cases : {A : Type 0} (b : List ℕ) (p n : ℕ) → (p + n ≤ length b → chunk b p n ≡ ok (take n (drop p b)) → A) → (length b < p + n → chunk b p n ≡ bad (refusal 2 p) → A) → A
+pub chunk-cases : {A : Type 0} (b : List ℕ) (p n : ℕ) → (p + n ≤ length b → chunk b p n ≡ ok (take n (drop p b)) → A) → (length b < p + n → chunk b p n ≡ bad (refusal CUT p) → A) → A
 chunk-cases {A} b p n f g = go (leb (p + n) (length b)) refl
   where
     go : (t : Bool) → leb (p + n) (length b) ≡ t → A
@@ -50,7 +51,7 @@ module _ (b : List ℕ) (p n : ℕ) where
   unfolding fieldAt
   field-whole h = rw (chunk-whole b p n h)
 
-  pub field-cut : length b < p + n → fieldAt b p n ≡ bad (refusal 2 p)
+  pub field-cut : length b < p + n → fieldAt b p n ≡ bad (refusal CUT p)
   unfolding fieldAt
   field-cut h = rw (chunk-cut b p n h)
 
@@ -84,19 +85,19 @@ module _ (b : List ℕ) (p n : ℕ) where
       (rw (g, q), ap (λ (y : Past ℕ). y .next) q, h))
       (λ h g. let k = field-cut h in let z : _≡_ {A = ℕ} 0 1 = cc in absurd (omega arith))
 
-  pub field-bad : (r : Refusal) → fieldAt b p n ≡ bad r → (field b p n ≡ bad r) × (r ≡ refusal 2 p)
+  pub field-bad : (r : Refusal) → fieldAt b p n ≡ bad r → (field b p n ≡ bad r) × (r ≡ refusal CUT p)
   unfolding fieldAt field
   field-bad r e =
       chunk-cases b p n
       (λ h g. let k = field-whole h in let z : _≡_ {A = ℕ} 0 1 = cc in absurd (omega arith))
-      (λ h g. let k = field-cut h in let q : r ≡ refusal 2 p = cc in (rw (g, q), q))
+      (λ h g. let k = field-cut h in let q : r ≡ refusal CUT p = cc in (rw (g, q), q))
 
   -- bytes that are passed over
   pub skip-whole : p + n ≤ length b → skipAt b p n ≡ ok (p + n)
   unfolding skipAt
   skip-whole h = rw (chunk-whole b p n h)
 
-  pub skip-cut : length b < p + n → skipAt b p n ≡ bad (refusal 2 p)
+  pub skip-cut : length b < p + n → skipAt b p n ≡ bad (refusal CUT p)
   unfolding skipAt
   skip-cut h = rw (chunk-cut b p n h)
 
@@ -114,7 +115,7 @@ module _ (b : List ℕ) (p : ℕ) where
   unfolding byteAt field
   byte-whole h = let g : p + 1 ≤ length b = omega arith in rw (chunk-whole b p 1 g, one-byte h, zero-add)
 
-  pub byte-cut : length b ≤ p → byteAt b p ≡ bad (refusal 2 p)
+  pub byte-cut : length b ≤ p → byteAt b p ≡ bad (refusal CUT p)
   unfolding byteAt field
   byte-cut h = let g : length b < p + 1 = omega arith in rw (chunk-cut b p 1 g)
 
@@ -127,7 +128,7 @@ module _ (b : List ℕ) (p : ℕ) where
       (k, ap (λ (y : Past ℕ). y .it) q, ap (λ (y : Past ℕ). y .next) q))
       (λ h g. let k = byte-cut (omega arith) in let z : _≡_ {A = ℕ} 0 1 = cc in absurd (omega arith))
 
-  pub byte-bad : (r : Refusal) → byteAt b p ≡ bad r → r ≡ refusal 2 p
+  pub byte-bad : (r : Refusal) → byteAt b p ≡ bad r → r ≡ refusal CUT p
   byte-bad r e =
       chunk-cases b p 1
       (λ h g. let k = byte-whole (omega arith) in let z : _≡_ {A = ℕ} 0 1 = cc in absurd (omega arith))
@@ -154,7 +155,7 @@ module _ (b : List ℕ) (k : ℕ) where
   skip-fields-cut n p r e =
       chunk-cases b p k
       (λ h g. let z : _≡_ {A = ℕ} 0 1 = cc in absurd (omega arith))
-      (λ h g. let q : r ≡ refusal 2 p = cc in rw (g, q))
+      (λ h g. let q : r ≡ refusal CUT p = cc in rw (g, q))
 
   -- n fields of k bytes end n * k bytes on, within the bytes
   pub skip-fields-end : (n p q : ℕ) → skipFieldsAt b k n p ≡ ok q → (q ≡ p + n * k) × (p ≤ length b → p + n * k ≤ length b)
@@ -167,7 +168,7 @@ module _ (b : List ℕ) (k : ℕ) where
       let r = skip-fields-end n (p + k) q (sym (skip-fields-past n p (p + k) (skip-whole b p k h)) ∙ e) in
       let z : p + suc n * k ≡ p + k + n * k = omega arith in
       (r .0 ∙ sym z, λ _. rw z (r .1 h)))
-      (λ h g. let c = skip-fields-cut n p (refusal 2 p) (skip-cut b p k h) in let z : _≡_ {A = ℕ} 0 1 = cc in absurd (omega arith))
+      (λ h g. let c = skip-fields-cut n p (refusal CUT p) (skip-cut b p k h) in let z : _≡_ {A = ℕ} 0 1 = cc in absurd (omega arith))
 
   -- the numbers of fields that are whole
   pub fields-are : (n p : ℕ) → fields b k n p ≡ then (skipFieldsAt b k n p) λ q. ok (numbersAt b k n p)

@@ -8,6 +8,7 @@ use native.Mathlib.Omega.{arith}
 use lib.Dec.{leb}
 use lib.ListN.{length, set, replicate}
 use borrow.Author.Tests.{le-leb, lt-leb, le-ltb, lt-ltb, leb-true, leb-false}
+use Rattle.scheme.specs.Refusals.{CUT, REFS, BITS}
 use Rattle.scheme.specs.Res.{bad, ok, refusal}
 use Rattle.scheme.specs.Bits.{bitOf, bytesFor, firstBits}
 use Rattle.scheme.specs.Builder.{Builder, withBits, putBits, appended, repeated, referred}
@@ -23,11 +24,11 @@ by-difference a n m h = go (leb n (m - a)) refl
     go false e = let l = leb-false n (m - a) e in sym (lt-leb (a + n) m (omega arith))
 
 module _ (b : Builder) (n : ℕ) (from : List ℕ) where
-  pub cut : length from < bytesFor n → appended b n from ≡ bad (refusal 2 0)
+  pub cut : length from < bytesFor n → appended b n from ≡ bad (refusal CUT 0)
   unfolding appended
   cut h = rw (lt-leb n (8 * length from) (omega arith))
 
-  pub passes : bytesFor n ≤ length from → leb (b .len + n) 1023 ≡ false → appended b n from ≡ bad (refusal 21 0)
+  pub passes : bytesFor n ≤ length from → leb (b .len + n) 1023 ≡ false → appended b n from ≡ bad (refusal BITS 0)
   unfolding appended
   passes h e = rw (le-leb n (8 * length from) (omega arith), e)
 
@@ -40,7 +41,7 @@ module _ (b : Builder) (n : ℕ) (from : List ℕ) where
   appends-bytes bytes r h e f w = rw (appends h e) (rw f at w)
 
 module _ (b : Builder) (n : ℕ) (bit : Bool) where
-  pub repeats-past : leb (b .len + n) 1023 ≡ false → repeated b n bit ≡ bad (refusal 21 0)
+  pub repeats-past : leb (b .len + n) 1023 ≡ false → repeated b n bit ≡ bad (refusal BITS 0)
   unfolding repeated
   repeats-past e = rw e
 
@@ -53,7 +54,7 @@ module _ (b : Builder) (n : ℕ) (bit : Bool) where
   repeats-bytes bytes r e f w = rw (repeats e) (rw f at w)
 
 module _ (b : Builder) (x : ℕ) where
-  pub fifth : 4 ≤ b .count → referred b x ≡ bad (refusal 11 0)
+  pub fifth : 4 ≤ b .count → referred b x ≡ bad (refusal REFS 0)
   unfolding referred
   fifth h = rw (le-ltb (b .count) 4 h)
 

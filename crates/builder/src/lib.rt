@@ -19,7 +19,7 @@ use scheme::Refusal;
 pub struct CellBuilder {
     pub exotic: bool,
     pub len: usize,
-    pub bytes: [u8; 128],
+    pub bytes: [u8; DATA_LEN],
     pub count: usize,
     pub refs: [u32; 4],
 }
@@ -182,7 +182,7 @@ impl CellBuilder {
     }
 
     // With n bits more, which the bytes have.
-    fn with_bits(self, n: usize, bytes: [u8; 128]) -> Built
+    fn with_bits(self, n: usize, bytes: [u8; DATA_LEN]) -> Built
         requires { ⌜ self .len + n ≤ 1023 ⌝ }
         ensures { λ r. ⌜ Builds (builderOf self) (ok (longer (builderOf self) n bytes)) r ⌝ }
     {

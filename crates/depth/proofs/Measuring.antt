@@ -6,6 +6,7 @@ use Prim.Native.Nat.{ℕ, _*_, _<_, _≤_}
 use native.Mathlib.Omega.{arith}
 use lib.ListN.{length}
 use borrow.Author.Tests.{lt-leb, le-leb}
+use Rattle.scheme.specs.Refusals.{STORE, SCRATCH, NOCELL, DEPTH}
 use Rattle.scheme.specs.Res.{Res, bad, ok, refusal}
 use Rattle.scheme.specs.Cells.{at}
 use Rattle.scheme.specs.Memory.{sound, cellAt, cellsOf}
@@ -18,17 +19,17 @@ module _ (n : ℕ) (t d : List ℕ) (i : ℕ) (s : List ℕ) where
   abbrev Said : Res ℕ
   Said = (measuring n t d i s) .answer
 
-  pub no-store : sound n t d ≡ false → bad (refusal 1 0) ≡ Said
+  pub no-store : sound n t d ≡ false → bad (refusal STORE 0) ≡ Said
   unfolding measuring
   no-store e = rw (lent-store 1 n t d i (length s) e)
 
   module _ (e : sound n t d ≡ true) where
-    pub no-cell : n ≤ i → bad (refusal 19 0) ≡ Said
+    pub no-cell : n ≤ i → bad (refusal NOCELL 0) ≡ Said
     unfolding measuring
     no-cell h = rw (lent-nocell 1 n t d i (length s) e h)
 
     module _ (h : i < n) where
-      pub no-scratch : length s < n → bad (refusal 9 n) ≡ Said
+      pub no-scratch : length s < n → bad (refusal SCRATCH n) ≡ Said
       unfolding measuring
       no-scratch l =
           let q : 1 * n ≡ n = omega arith in
@@ -43,7 +44,7 @@ module _ (n : ℕ) (t d : List ℕ) (i : ℕ) (s : List ℕ) where
         same : depthOf (at (cellsOf n t d)) i ≡ depthOf (cellAt t d) i
         same = value-cells depthStep 0 t d n i h
 
-        pub too-deep : 65535 < depthOf (cellAt t d) i → bad (refusal 22 0) ≡ Said
+        pub too-deep : 65535 < depthOf (cellAt t d) i → bad (refusal DEPTH 0) ≡ Said
         unfolding depth
         too-deep p = rw (measured, same, lt-leb (depthOf (cellAt t d) i) 65535 p)
 

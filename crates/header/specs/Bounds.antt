@@ -9,6 +9,7 @@ use borrow.Author.Tests.{leb-true}
 use lib.ListN.{length}
 use lib.Dec.{leb}
 use Rattle.laws.specs.Accept.{then-use, check-inv}
+use Rattle.scheme.specs.Refusals.{SIZE, OFFSET, COUNTS, CELLS, SCRATCH, ROOTROOM}
 use Rattle.scheme.specs.Res.{ok, check, refusal}
 use Rattle.scheme.specs.declared.Refusal.{Refusal}
 use Rattle.scheme.specs.Layout.{tagOk, layout}
@@ -27,11 +28,11 @@ flags-within b f e =
     then-use (fieldAt b 0 4) _ _ e λ tag x₁ e₁.
     then-use (tagOk (tag .it)) _ _ e₁ λ u₂ x₂ e₂.
     then-use (byteAt b (tag .next)) _ _ e₂ λ flags x₃ e₃.
-    then-use (check (leb (layout (tag .it) (flags .it) .size) 4) (refusal 5 4)) _ _ e₃ λ u₄ x₄ e₄.
+    then-use (check (leb (layout (tag .it) (flags .it) .size) 4) (refusal SIZE 4)) _ _ e₃ λ u₄ x₄ e₄.
     then-use (byteAt b (flags .next)) _ _ e₄ λ off x₅ e₅.
-    then-use (check (leb (off .it) 8) (refusal 6 5)) _ _ e₅ λ u₆ x₆ e₆.
+    then-use (check (leb (off .it) 8) (refusal OFFSET 5)) _ _ e₅ λ u₆ x₆ e₆.
     let r : f ≡ record { shape = layout (tag .it) (flags .it); off = off .it } = cc in
-    rw r (passed (layout (tag .it) (flags .it) .size) 4 (refusal 5 4) u₄ x₄, passed (off .it) 8 (refusal 6 5) u₆ x₆)
+    rw r (passed (layout (tag .it) (flags .it) .size) 4 (refusal SIZE 4) u₄ x₄, passed (off .it) 8 (refusal OFFSET 5) u₆ x₆)
 
 -- the counts c of a header whose places take `size` bytes
 pub record Counted (size scratch room : ℕ) (c : Counts) : Type 0 where
@@ -47,20 +48,20 @@ counts-within b size scratch room c h e =
     then-use (fieldAt b 6 size) _ _ e λ cells x₁ e₁.
     then-use (fieldAt b (cells .next) size) _ _ e₁ λ roots x₂ e₂.
     then-use (fieldAt b (roots .next) size) _ _ e₂ λ absent x₃ e₃.
-    then-use (check (leb (roots .it + absent .it) (cells .it)) (refusal 7 6)) _ _ e₃ λ u₄ x₄ e₄.
-    then-use (check (leb (cells .it) 4096) (refusal 8 6)) _ _ e₄ λ u₅ x₅ e₅.
-    then-use (check (leb (2 * cells .it) scratch) (refusal 9 (2 * cells .it))) _ _ e₅ λ u₆ x₆ e₆.
-    then-use (check (leb (roots .it) room) (refusal 10 (roots .it))) _ _ e₆ λ u₇ x₇ e₇.
+    then-use (check (leb (roots .it + absent .it) (cells .it)) (refusal COUNTS 6)) _ _ e₃ λ u₄ x₄ e₄.
+    then-use (check (leb (cells .it) 4096) (refusal CELLS 6)) _ _ e₄ λ u₅ x₅ e₅.
+    then-use (check (leb (2 * cells .it) scratch) (refusal SCRATCH (2 * cells .it))) _ _ e₅ λ u₆ x₆ e₆.
+    then-use (check (leb (roots .it) room) (refusal ROOTROOM (roots .it))) _ _ e₆ λ u₇ x₇ e₇.
     let g : size ≤ 8 = omega arith in
     let k₁ = field-ok b 6 size g cells x₁ in
     let k₂ = field-ok b (cells .next) size g roots x₂ in
     let k₃ = field-ok b (roots .next) size g absent x₃ in
     let r : c ≡ record { cells = cells .it; roots = roots .it; next = absent .next } = cc in
     rw r (record {
-      few = passed (cells .it) 4096 (refusal 8 6) u₅ x₅;
-      held = omega (arith, passed (roots .it + absent .it) (cells .it) (refusal 7 6) u₄ x₄);
-      scratch-room = passed (2 * cells .it) scratch (refusal 9 (2 * cells .it)) u₆ x₆;
-      root-room = passed (roots .it) room (refusal 10 (roots .it)) u₇ x₇;
+      few = passed (cells .it) 4096 (refusal CELLS 6) u₅ x₅;
+      held = omega (arith, passed (roots .it + absent .it) (cells .it) (refusal COUNTS 6) u₄ x₄);
+      scratch-room = passed (2 * cells .it) scratch (refusal SCRATCH (2 * cells .it)) u₆ x₆;
+      root-room = passed (roots .it) room (refusal ROOTROOM (roots .it)) u₇ x₇;
       place = omega arith;
     })
 

@@ -8,7 +8,7 @@ use borrow.Author.Tests.{leb-true}
 use lib.ListN.{length}
 use lib.Dec.{leb, lit≤}
 use Rattle.laws.specs.Accept.{check-inv}
-use Rattle.scheme.specs.Refusals.{EXTRA}
+use Rattle.scheme.specs.Refusals.{SIZE, OFFSET, COUNTS, CELLS, SCRATCH, ROOTROOM, EXTRA}
 use Rattle.scheme.specs.Res.{Res, bad, ok, then, check, refusal}
 use Rattle.scheme.specs.Bytes.{field}
 use Rattle.scheme.specs.Layout.{tagOk, layout}
@@ -28,9 +28,9 @@ flags-are : (b : List ℕ) → flagsAt b ≡
     (then (field b 0 4) λ tag.
     then (tagOk tag) λ _.
     then (field b 4 1) λ flags.
-    then (check (leb (layout tag flags .size) 4) (refusal 5 4)) λ _.
+    then (check (leb (layout tag flags .size) 4) (refusal SIZE 4)) λ _.
     then (field b 5 1) λ off.
-    then (check (leb off 8) (refusal 6 5)) λ _.
+    then (check (leb off 8) (refusal OFFSET 5)) λ _.
     ok (record { shape = layout tag flags; off = off }))
 unfolding flagsAt byteAt
 flags-are b =
@@ -40,7 +40,7 @@ flags-are b =
     then-same (tagOk tag) λ _ _.
     then-then (field b 4 1) _ _
     ∙ then-same (field b 4 1) λ flags _.
-    then-same (check (leb (layout tag flags .size) 4) (refusal 5 4)) λ _ _.
+    then-same (check (leb (layout tag flags .size) 4) (refusal SIZE 4)) λ _ _.
     then-then (field b 5 1) _ _)
 
 -- the counts at their places
@@ -133,18 +133,18 @@ module _ {A : Type 0} (K : ℕ → ℕ → Bool → List ℕ → ℕ → Res A) 
       (then-first (field b 0 4) _ _ _ _ _ λ tag _.
       then-first (tagOk tag) _ _ _ _ _ λ _ _.
       then-first (field b 4 1) _ _ _ _ _ λ flags _.
-      then-first (check (leb (layout tag flags .size) 4) (refusal 5 4)) _ _ _ _ _ λ u s.
+      then-first (check (leb (layout tag flags .size) 4) (refusal SIZE 4)) _ _ _ _ _ λ u s.
       then-first (field b 5 1) _ _ _ _ _ λ off _.
-      then-first (check (leb off 8) (refusal 6 5)) _ _ _ _ _ λ _ _.
-      let h : layout tag flags .size ≤ 4 = leb-true _ _ (check-inv (leb (layout tag flags .size) 4) (refusal 5 4) u s) in
+      then-first (check (leb off 8) (refusal OFFSET 5)) _ _ _ _ _ λ _ _.
+      let h : layout tag flags .size ≤ 4 = leb-true _ _ (check-inv (leb (layout tag flags .size) 4) (refusal SIZE 4) u s) in
       rw (counts-are b (layout tag flags .size) scratch room h)
       (then-first (field b 6 (layout tag flags .size)) _ _ _ _ _ λ cells _.
       then-first (field b (6 + layout tag flags .size) (layout tag flags .size)) _ _ _ _ _ λ roots _.
       then-first (field b (6 + 2 * layout tag flags .size) (layout tag flags .size)) _ _ _ _ _ λ absent _.
-      then-first (check (leb (roots + absent) cells) (refusal 7 6)) _ _ _ _ _ λ _ _.
-      then-first (check (leb cells 4096) (refusal 8 6)) _ _ _ _ _ λ _ _.
-      then-first (check (leb (2 * cells) scratch) (refusal 9 (2 * cells))) _ _ _ _ _ λ _ _.
-      then-first (check (leb roots room) (refusal 10 roots)) _ _ _ _ _ λ _ _.
+      then-first (check (leb (roots + absent) cells) (refusal COUNTS 6)) _ _ _ _ _ λ _ _.
+      then-first (check (leb cells 4096) (refusal CELLS 6)) _ _ _ _ _ λ _ _.
+      then-first (check (leb (2 * cells) scratch) (refusal SCRATCH (2 * cells))) _ _ _ _ _ λ _ _.
+      then-first (check (leb roots room) (refusal ROOTROOM roots)) _ _ _ _ _ λ _ _.
       then-then (field b (6 + 3 * layout tag flags .size) off) _ _ ∙ places-tie tag flags off cells roots (6 + 3 * layout tag flags .size)))
 
 -- what follows the header of a bag: the cells, the checksum, EXTRA, the links and the roots

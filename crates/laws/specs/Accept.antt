@@ -12,6 +12,7 @@ use lib.Dec.{eqb, leb, ltb}
 use borrow.Author.Tests.{leb-true, ltb-true, eqb-true, eqb-false, not-true}
 use lib.Seq.{length-take-le}
 use Rattle.laws.specs.Tests.{and-left, and-right}
+use Rattle.scheme.specs.Refusals.{CUT, REFS, PADDING, EXTRA, BACK, RANGE, ROOT, FULL}
 use Rattle.scheme.specs.Cells.{Cell}
 use Rattle.scheme.specs.Bag.{load, header, hashes, Bits, bits, rawCell, rawCells, refsOk, links, rootsOk, checksum, read, Got, Counts, Past, rootList, index, bag, Bag}
 use Rattle.laws.specs.Meaning.{Linked}
@@ -54,8 +55,8 @@ mem-drop (suc k) (y ∷ ys) x m = there (mem-drop k ys x m)
 pub chunk-inv : (b : List ℕ) (p k : ℕ) (xs : List ℕ) → chunk b p k ≡ ok xs → Small b → (length xs ≡ k) × Small xs
 unfolding chunk
 chunk-inv b p k xs e S =
-    then-use (check (leb (p + k) (length b)) (refusal 2 p)) _ _ e λ u c e₁.
-    let h = leb-true (p + k) (length b) (check-inv (leb (p + k) (length b)) (refusal 2 p) u c) in
+    then-use (check (leb (p + k) (length b)) (refusal CUT p)) _ _ e λ u c e₁.
+    let h = leb-true (p + k) (length b) (check-inv (leb (p + k) (length b)) (refusal CUT p) u c) in
     let q : xs ≡ take k (drop p b) = cc in
     rw q (length-take-le k (drop p b) (omega (arith, length-drop p b)), λ x m. S x (mem-drop p b x (mem-take k (drop p b) x m)))
 
@@ -157,15 +158,15 @@ bits-fit d2 q xs w h n S e = go (eqb (d2 % 2) 1) refl e
         let r : w ≡ record { len = 8 * length xs; bytes = xs } = cc in
         rw r (record { few = omega arith; many = omega arith; small = S; clean = λ c. absurd (c (omega arith)) })
     go true o e =
-        then-use (check (not (eqb (lastOf xs) 0)) (refusal 12 q)) _ _ e λ u c e₁.
+        then-use (check (not (eqb (lastOf xs) 0)) (refusal PADDING q)) _ _ e λ u c e₁.
         let r : w ≡ record { len = 8 * length xs - 1 - zeros 8 (lastOf xs); bytes = unmark (zeros 8 (lastOf xs)) xs } = cc in
-        rw r (marked (zeros 8 (lastOf xs)) (not-true (eqb (lastOf xs) 0) (check-inv (not (eqb (lastOf xs) 0)) (refusal 12 q) u c)) refl (eqb (zeros 8 (lastOf xs)) 7) refl)
+        rw r (marked (zeros 8 (lastOf xs)) (not-true (eqb (lastOf xs) 0) (check-inv (not (eqb (lastOf xs) 0)) (refusal PADDING q) u c)) refl (eqb (zeros 8 (lastOf xs)) 7) refl)
 
 pub cell-fit : (b : List ℕ) (size p : ℕ) (c : Past Cell) → rawCell b size p ≡ ok c → Small b → Fit (c .it)
 unfolding rawCell
 cell-fit b size p c e S =
     then-use (field b p 1) _ _ e λ d1 x₁ e₁.
-    then-use (check (leb (d1 % 8) 4) (refusal 11 p)) _ _ e₁ λ u₂ x₂ e₂.
+    then-use (check (leb (d1 % 8) 4) (refusal REFS p)) _ _ e₁ λ u₂ x₂ e₂.
     then-use (field b (p + 1) 1) _ _ e₂ λ d2 x₃ e₃.
     then-use (chunk b (p + 2) (hashes d1)) _ _ e₃ λ u₄ x₄ e₄.
     then-use (chunk b (p + 2 + hashes d1) ((d2 + 1) / 2)) _ _ e₄ λ xs x₅ e₅.
@@ -173,7 +174,7 @@ cell-fit b size p c e S =
     then-use (fields b size (d1 % 8) (p + 2 + hashes d1 + (d2 + 1) / 2)) _ _ e₆ λ rs x₇ e₇.
     let r = chunk-inv b (p + 2 + hashes d1) ((d2 + 1) / 2) xs x₅ S in
     let W = bits-fit d2 (p + 2 + hashes d1) xs w (byte-inv b (p + 1) d2 x₃ S) (r .0) (r .1) x₆ in
-    let few = leb-true (d1 % 8) 4 (check-inv (leb (d1 % 8) 4) (refusal 11 p) u₂ x₂) in
+    let few = leb-true (d1 % 8) 4 (check-inv (leb (d1 % 8) 4) (refusal REFS p) u₂ x₂) in
     let n = fields-length b size (d1 % 8) (p + 2 + hashes d1 + (d2 + 1) / 2) rs x₇ in
     let q : record { exotic = d1 / 8 % 2; len = w .len; bytes = w .bytes; refs = rs } ≡ c .it = cc in
     rw (← q) (record { flag = omega arith; few = W .few; many = W .many; small = W .small; clean = W .clean; arity = omega arith })
@@ -195,9 +196,9 @@ cells-fit b size (suc n) p c e S =
 refs-inv : (i n : ℕ) (rs : List ℕ) (u : Unit {0}) → refsOk i n rs ≡ ok u → (r : ℕ) → Mem r rs → (i < r) × (r < n)
 refs-inv i n [] u e r m = elim m [ ]
 refs-inv i n (y ∷ ys) u e r m =
-    then-use (check (ltb i y) (refusal 15 i)) _ _ e λ u₁ x₁ e₁.
-    then-use (check (ltb y n) (refusal 16 i)) _ _ e₁ λ u₂ x₂ e₂.
-    go (ltb-true i y (check-inv (ltb i y) (refusal 15 i) u₁ x₁), ltb-true y n (check-inv (ltb y n) (refusal 16 i) u₂ x₂)) (refs-inv i n ys u e₂) m
+    then-use (check (ltb i y) (refusal BACK i)) _ _ e λ u₁ x₁ e₁.
+    then-use (check (ltb y n) (refusal RANGE i)) _ _ e₁ λ u₂ x₂ e₂.
+    go (ltb-true i y (check-inv (ltb i y) (refusal BACK i) u₁ x₁), ltb-true y n (check-inv (ltb y n) (refusal RANGE i) u₂ x₂)) (refs-inv i n ys u e₂) m
   where
     go : (i < y) × (y < n) → ((r : ℕ) → Mem r ys → (i < r) × (r < n)) → Mem r (y ∷ ys) → (i < r) × (r < n)
     go h ih (here q) = rw q h
@@ -212,8 +213,8 @@ links-inv i n (c ∷ cs) u e q =
 pub roots-inv : (k n : ℕ) (rs : List ℕ) (u : Unit {0}) → rootsOk k n rs ≡ ok u → (r : ℕ) → Mem r rs → r < n
 roots-inv k n [] u e r m = elim m [ ]
 roots-inv k n (y ∷ ys) u e r m =
-    then-use (check (ltb y n) (refusal 17 k)) _ _ e λ u₁ x₁ e₁.
-    go (ltb-true y n (check-inv (ltb y n) (refusal 17 k) u₁ x₁)) (roots-inv (suc k) n ys u e₁) m
+    then-use (check (ltb y n) (refusal ROOT k)) _ _ e λ u₁ x₁ e₁.
+    go (ltb-true y n (check-inv (ltb y n) (refusal ROOT k) u₁ x₁)) (roots-inv (suc k) n ys u e₁) m
   where
     go : y < n → ((r : ℕ) → Mem r ys → r < n) → Mem r (y ∷ ys) → r < n
     go h ih (here q) = rw q h
@@ -233,7 +234,7 @@ bag-inv whole scratch room b g S e =
     then-use (index b h (roots .next)) _ _ e₂ λ p x₃ e₃.
     then-use (rawCells b (h .shape .size) (h .cells) (p .next)) _ _ e₃ λ c x₄ e₄.
     then-use (checksum (h .shape .has-crc) b (c .next)) _ _ e₄ λ end x₅ e₅.
-    then-use (check (not whole || leb (length b) end) (refusal 14 end)) _ _ e₅ λ u₆ x₆ e₆.
+    then-use (check (not whole || leb (length b) end) (refusal EXTRA end)) _ _ e₅ λ u₆ x₆ e₆.
     then-use (links 0 (h .cells) (c .it)) _ _ e₆ λ u₇ x₇ e₇.
     then-use (rootsOk 0 (h .cells) (roots .it)) _ _ e₇ λ u₈ x₈ e₈.
     let C = cells-fit b (h .shape .size) (h .cells) (p .next) c x₄ S in
@@ -256,8 +257,8 @@ pub read-inv : (whole : Bool) (scratch room cap : ℕ) (s : List Cell) (b : List
 unfolding read
 read-inv whole scratch room cap s b g S e =
     then-use (bag whole scratch room b) _ _ e λ a x₁ e₁.
-    then-use (check (leb (length ((load s 0 (a .cells)) .store)) cap) (refusal 18 0)) _ _ e₁ λ u₂ x₂ e₂.
-    let free = leb-true (length ((load s 0 (a .cells)) .store)) cap (check-inv (leb (length ((load s 0 (a .cells)) .store)) cap) (refusal 18 0) u₂ x₂) in
+    then-use (check (leb (length ((load s 0 (a .cells)) .store)) cap) (refusal FULL 0)) _ _ e₁ λ u₂ x₂ e₂.
+    let free = leb-true (length ((load s 0 (a .cells)) .store)) cap (check-inv (leb (length ((load s 0 (a .cells)) .store)) cap) (refusal FULL 0) u₂ x₂) in
     let q₀ : g .counts ≡ record { used = a .used; cells = length (a .cells); roots = length (a .roots); added = length ((load s 0 (a .cells)) .store) - length s } = cc in
     let q₃ : g .store ≡ (load s 0 (a .cells)) .store = cc in
     record {

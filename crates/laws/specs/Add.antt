@@ -10,6 +10,7 @@ use lib.ListN.{length, take, length-take}
 use lib.Seq.{length-take-le}
 use lib.Dec.{leb, ltb}
 use borrow.Author.Tests.{leb-true, ltb-true}
+use Rattle.scheme.specs.Refusals.{REFS, FULL, NOCELL, BITS}
 use Rattle.scheme.specs.Cells.{Cell, find, insert}
 use Rattle.scheme.specs.Bits.{mask, cropped, bitOf, lastOf}
 use Rattle.scheme.specs.Res.{refusal, ok, check}
@@ -65,8 +66,8 @@ fit-in b T hl hr =
 held-inv : (k n : ℕ) (rs : List ℕ) (u : Unit {0}) → refsHeld k n rs ≡ ok u → Below n rs
 held-inv k n [] u e r m = elim m [ ]
 held-inv k n (y ∷ ys) u e r m =
-    then-use (check (ltb y n) (refusal 19 k)) _ _ e λ u₁ x₁ e₁.
-    go (ltb-true y n (check-inv (ltb y n) (refusal 19 k) u₁ x₁)) (held-inv (suc k) n ys u e₁) m
+    then-use (check (ltb y n) (refusal NOCELL k)) _ _ e λ u₁ x₁ e₁.
+    go (ltb-true y n (check-inv (ltb y n) (refusal NOCELL k) u₁ x₁)) (held-inv (suc k) n ys u e₁) m
   where
     go : y < n → Below n ys → Mem r (y ∷ ys) → r < n
     go h ih (here q) = rw q h
@@ -84,15 +85,15 @@ pub record Taken (cap : ℕ) (s : List Cell) (a : Added) : Type 0 where
 pub add-inv : (cap : ℕ) (s : List Cell) (b : Builder) (a : Added) → Typed b → add cap s b ≡ ok a → Taken cap s a
 unfolding add
 add-inv cap s b a T e =
-    then-use (check (leb (b .len) 1023) (refusal 21 0)) _ _ e λ u₁ x₁ e₁.
-    then-use (check (leb (b .count) 4) (refusal 11 0)) _ _ e₁ λ u₂ x₂ e₂.
+    then-use (check (leb (b .len) 1023) (refusal BITS 0)) _ _ e λ u₁ x₁ e₁.
+    then-use (check (leb (b .count) 4) (refusal REFS 0)) _ _ e₁ λ u₂ x₂ e₂.
     then-use (refsHeld 0 (length s) (take (b .count) (b .refs))) _ _ e₂ λ u₃ x₃ e₃.
-    then-use (check (leb (length (insert s (cellIn b))) cap) (refusal 18 0)) _ _ e₃ λ u₄ x₄ e₄.
+    then-use (check (leb (length (insert s (cellIn b))) cap) (refusal FULL 0)) _ _ e₃ λ u₄ x₄ e₄.
     record {
       cell = cellIn b;
-      fit = fit-in b T (leb-true (b .len) 1023 (check-inv (leb (b .len) 1023) (refusal 21 0) u₁ x₁)) (leb-true (b .count) 4 (check-inv (leb (b .count) 4) (refusal 11 0) u₂ x₂));
+      fit = fit-in b T (leb-true (b .len) 1023 (check-inv (leb (b .len) 1023) (refusal BITS 0) u₁ x₁)) (leb-true (b .count) 4 (check-inv (leb (b .count) 4) (refusal REFS 0) u₂ x₂));
       below = held-inv 0 (length s) (take (b .count) (b .refs)) u₃ x₃;
-      free = leb-true (length (insert s (cellIn b))) cap (check-inv (leb (length (insert s (cellIn b))) cap) (refusal 18 0) u₄ x₄);
+      free = leb-true (length (insert s (cellIn b))) cap (check-inv (leb (length (insert s (cellIn b))) cap) (refusal FULL 0) u₄ x₄);
       number-is = cc;
       store-is = cc;
     }

@@ -9,6 +9,7 @@ use lib.ListN.{length, getD, take, set, length-take, length-set}
 use lib.Seq.{take-suc, take-set-le, take-suc-set, getD-take, getD-set-same, length-take-le}
 use lib.Dec.{leb, ltb}
 use borrow.Author.Tests.{leb-true, ltb-true}
+use Rattle.scheme.specs.Refusals.{REFS, FULL, NOCELL, BITS}
 use Rattle.scheme.specs.Res.{Res, bad, ok, check, refusal}
 use Rattle.scheme.specs.Bits.{bytesFor, mask, cropped}
 use Rattle.scheme.specs.Cells.{Cell, insert}
@@ -101,8 +102,8 @@ wf-in n b long few refs below =
 refs-below : (k n : ℕ) (rs : List ℕ) (u : Unit {0}) → refsHeld k n rs ≡ ok u → (j : ℕ) → j < length rs → getD rs j 0 < n
 refs-below k n [] u e j h = absurd (not-suc-le-zero h)
 refs-below k n (y ∷ ys) u e j h =
-    then-use (check (ltb y n) (refusal 19 k)) _ _ e λ u₁ x₁ e₁.
-    go (ltb-true y n (check-inv (ltb y n) (refusal 19 k) u₁ x₁)) (refs-below (suc k) n ys u e₁) j h
+    then-use (check (ltb y n) (refusal NOCELL k)) _ _ e λ u₁ x₁ e₁.
+    go (ltb-true y n (check-inv (ltb y n) (refusal NOCELL k) u₁ x₁)) (refs-below (suc k) n ys u e₁) j h
   where
     go : y < n → ((i : ℕ) → i < length ys → getD ys i 0 < n) → (i : ℕ) → i < suc (length ys) → getD (y ∷ ys) i 0 < n
     go l ih zero g = l
@@ -137,13 +138,13 @@ module _ (n : ℕ) (t d : List ℕ) (b : Builder) (long : length (b .bytes) ≡ 
   added-holds : (a : Added) → add (capacity t) (cellsOf n t d) b ≡ ok a → Holds (a .store) (addOut n t d (ok a))
   unfolding add
   added-holds a q =
-      then-use (check (leb (b .len) 1023) (refusal 21 0)) _ _ q λ u₁ x₁ e₁.
-      then-use (check (leb (b .count) 4) (refusal 11 0)) _ _ e₁ λ u₂ x₂ e₂.
+      then-use (check (leb (b .len) 1023) (refusal BITS 0)) _ _ q λ u₁ x₁ e₁.
+      then-use (check (leb (b .count) 4) (refusal REFS 0)) _ _ e₁ λ u₂ x₂ e₂.
       then-use (refsHeld 0 (length s) (take (b .count) (b .refs))) _ _ e₂ λ u₃ x₃ e₃.
-      then-use (check (leb (length (insert s (cellIn b))) (capacity t)) (refusal 18 0)) _ _ e₃ λ u₄ x₄ e₄.
-      let few = leb-true (b .len) 1023 (check-inv (leb (b .len) 1023) (refusal 21 0) u₁ x₁) in
-      let refs = leb-true (b .count) 4 (check-inv (leb (b .count) 4) (refusal 11 0) u₂ x₂) in
-      let fits = leb-true (length (insert s (cellIn b))) (capacity t) (check-inv (leb (length (insert s (cellIn b))) (capacity t)) (refusal 18 0) u₄ x₄) in
+      then-use (check (leb (length (insert s (cellIn b))) (capacity t)) (refusal FULL 0)) _ _ e₃ λ u₄ x₄ e₄.
+      let few = leb-true (b .len) 1023 (check-inv (leb (b .len) 1023) (refusal BITS 0) u₁ x₁) in
+      let refs = leb-true (b .count) 4 (check-inv (leb (b .count) 4) (refusal REFS 0) u₂ x₂) in
+      let fits = leb-true (length (insert s (cellIn b))) (capacity t) (check-inv (leb (length (insert s (cellIn b))) (capacity t)) (refusal FULL 0) u₄ x₄) in
       let w = wf-in n b long few refs (λ k h. rw (← cells-length n t d) (refs-below 0 (length s) (take (b .count) (b .refs)) u₃ x₃ k h)) in
       let st : insert s (cellIn b) ≡ a .store = cc in
       subst (λ (x : List Cell). Holds x (addOut n t d (ok (record { number = a .number; store = x })))) st

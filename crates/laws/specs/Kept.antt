@@ -8,6 +8,7 @@ use native.Mathlib.Omega.{arith}
 use mathlib.Core.List.{List, [], _∷_, _++_, map, List·Memᴰ as Mem, List·Memᴰ·head as here, List·Memᴰ·tail as there}
 use lib.ListN.{length, getD, length-map}
 use lib.Dec.{leb}
+use Rattle.scheme.specs.Refusals.{NOROOM}
 use Rattle.scheme.specs.Cells.{Cell, at, find, insert, with}
 use Rattle.laws.specs.Unique.{Sound, sound-nil, sound-insert, find-cases, insert-old, insert-new, place-cases, at-old, at-new}
 use Rattle.scheme.specs.Bag.{link, load, read, Got}
@@ -102,5 +103,5 @@ module _ (cap : ℕ) where
 pub write-inv : (out : ℕ) (idx sum : Bool) (s : List Cell) (root : ℕ) (b : List ℕ) → serialized idx sum s root out ≡ ok b → b ≡ write idx sum s root
 unfolding serialized
 write-inv out idx sum s root b e =
-    then-use (check (leb (length (write idx sum s root)) out) (refusal 20 (length (write idx sum s root)))) _ _ e λ u₃ x₃ e₃.
+    then-use (check (leb (length (write idx sum s root)) out) (refusal NOROOM (length (write idx sum s root)))) _ _ e λ u₃ x₃ e₃.
     cc

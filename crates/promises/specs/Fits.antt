@@ -11,7 +11,7 @@ use lib.Seq.{take-at}
 use lib.Dec.{leb, ltb}
 use borrow.Author.Tests.{leb-true, le-leb}
 use Rattle.scheme.specs.declared.Refusal.{Refusal}
-use Rattle.scheme.specs.Refusals.{STORE}
+use Rattle.scheme.specs.Refusals.{STORE, NOROOM, DEEP, BUDGET}
 use Rattle.scheme.specs.Limits.{maxPath, maxBudget}
 use Rattle.scheme.specs.Res.{Res, bad, ok, check, refusal}
 use Rattle.scheme.specs.Cells.{Cell, at}
@@ -47,10 +47,10 @@ refused-few r =
 page-few : (s : List Cell) (i budget room : ℕ) (p : Page) → page s i budget room ≡ ok p → length (p .text) ≤ room
 unfolding page
 page-few s i budget room p e =
-    then-use (check (leb (height (at s) i) maxPath) (refusal 23 0)) _ _ e λ u₁ x₁ e₁.
-    then-use (check (leb (treeSize (at s) i) (min budget maxBudget)) (refusal 24 (min budget maxBudget))) _ _ e₁ λ u₂ x₂ e₂.
-    then-use (check (leb (length (textOf (at s) i)) room) (refusal 20 (length (textOf (at s) i)))) _ _ e₂ λ u₃ x₃ e₃.
-    let h = leb-true (length (textOf (at s) i)) room (check-inv (leb (length (textOf (at s) i)) room) (refusal 20 (length (textOf (at s) i))) u₃ x₃) in
+    then-use (check (leb (height (at s) i) maxPath) (refusal DEEP 0)) _ _ e λ u₁ x₁ e₁.
+    then-use (check (leb (treeSize (at s) i) (min budget maxBudget)) (refusal BUDGET (min budget maxBudget))) _ _ e₁ λ u₂ x₂ e₂.
+    then-use (check (leb (length (textOf (at s) i)) room) (refusal NOROOM (length (textOf (at s) i)))) _ _ e₂ λ u₃ x₃ e₃.
+    let h = leb-true (length (textOf (at s) i)) room (check-inv (leb (length (textOf (at s) i)) room) (refusal NOROOM (length (textOf (at s) i))) u₃ x₃) in
     let q : record { text = textOf (at s) i; cells = treeSize (at s) i } ≡ p = cc in
     rw (← q) h
 

@@ -4,6 +4,7 @@ use mathlib.Core.Path.{_≡_}
 use mathlib.Core.List.{List}
 use borrow.Author.Tests.{eq-eqb, ne-eqb, le-leb, lt-leb}
 use lib.ListN.{getD}
+use Rattle.scheme.specs.Refusals.{REFS, PADDING}
 use Rattle.scheme.specs.Res.{bad, ok, refusal}
 use Rattle.scheme.specs.declared.Refusal.{Refusal}
 use Rattle.scheme.specs.Bits.{zeros}
@@ -21,7 +22,7 @@ module _ (b : List ℕ) (p d2 : ℕ) where
     unfolding dataAt bitsIn
     data-even h = rw (e, ne-eqb (d2 % 2) 1 h)
 
-    pub data-padding : d2 % 2 ≡ 1 → getD b (next - 1) 0 ≡ 0 → bad (refusal 12 p) ≡ dataAt b p d2
+    pub data-padding : d2 % 2 ≡ 1 → getD b (next - 1) 0 ≡ 0 → bad (refusal PADDING p) ≡ dataAt b p d2
     unfolding dataAt bitsIn
     data-padding h z = rw (e, eq-eqb (d2 % 2) 1 h, z)
 
@@ -56,7 +57,7 @@ module _ (b : List ℕ) (size p : ℕ) where
   d1-cut r e = rw e
 
   module _ (d1 q : ℕ) (e : byteAt b p ≡ ok (record { it = d1; next = q })) where
-    pub refs-over : 4 < d1 % 8 → bad (refusal 11 p) ≡ frame b size p
+    pub refs-over : 4 < d1 % 8 → bad (refusal REFS p) ≡ frame b size p
     unfolding frame
     refs-over h = rw (e, lt-leb (d1 % 8) 4 h)
 

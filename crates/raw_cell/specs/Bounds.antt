@@ -8,6 +8,7 @@ use borrow.Author.Tests.{eqb-false, leb-true}
 use lib.ListN.{length, getD}
 use lib.Dec.{eqb, leb}
 use Rattle.laws.specs.Accept.{then-use, check-inv}
+use Rattle.scheme.specs.Refusals.{REFS, PADDING}
 use Rattle.scheme.specs.Res.{ok, check, refusal}
 use Rattle.scheme.specs.Bits.{bytesFor, zeros}
 use Rattle.scheme.specs.Bag.{Past, hashes}
@@ -36,7 +37,7 @@ bits-in false p n last len h g e =
     let k = g refl in
     (omega arith, omega arith)
 bits-in true p n last len h g e =
-    then-use (check (not (eqb last 0)) (refusal 12 p)) _ _ e λ u c e₁.
+    then-use (check (not (eqb last 0)) (refusal PADDING p)) _ _ e λ u c e₁.
     let q : 8 * n - 1 - zeros 8 last ≡ len = cc in
     (omega arith, omega arith)
 
@@ -51,7 +52,7 @@ pub frame-within : (b : List ℕ) (size p : ℕ) (f : RawCell) → ((i : ℕ) �
 unfolding frame bodyAt dataAt
 frame-within b size p f small e =
     then-use (byteAt b p) _ _ e λ d1 x₁ e₁.
-    then-use (check (leb (d1 .it % 8) 4) (refusal 11 p)) _ _ e₁ λ u₂ x₂ e₂.
+    then-use (check (leb (d1 .it % 8) 4) (refusal REFS p)) _ _ e₁ λ u₂ x₂ e₂.
     then-use (byteAt b (d1 .next)) _ _ e₂ λ d2 x₃ e₃.
     then-use (skipAt b (d2 .next) (hashes (d1 .it))) _ _ e₃ λ body x₄ e₄.
     then-use (dataAt b body (d2 .it)) _ _ e₄ λ w x₅ e₅.
@@ -59,7 +60,7 @@ frame-within b size p f small e =
     then-use (skipAt b body ((d2 .it + 1) / 2)) _ _ x₅ λ q x₇ e₇.
     then-use (bitsIn (eqb (d2 .it % 2) 1) body ((d2 .it + 1) / 2) (getD b (q - 1) 0)) _ _ e₇ λ len x₈ e₈.
     let k₁ = byte-is b p d1 x₁ in
-    let k₂ = leb-true (d1 .it % 8) 4 (check-inv (leb (d1 .it % 8) 4) (refusal 11 p) u₂ x₂) in
+    let k₂ = leb-true (d1 .it % 8) 4 (check-inv (leb (d1 .it % 8) 4) (refusal REFS p) u₂ x₂) in
     let k₃ = byte-is b (d1 .next) d2 x₃ in
     let k₄ = skip-past b (d2 .next) (hashes (d1 .it)) body x₄ in
     let k₆ = skip-fields-end b size (d1 .it % 8) (w .next) next x₆ in

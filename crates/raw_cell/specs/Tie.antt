@@ -7,6 +7,7 @@ use native.Mathlib.Omega.{arith}
 use borrow.Author.Tests.{eqb-true}
 use lib.ListN.{drop, getD}
 use lib.Dec.{eqb, leb}
+use Rattle.scheme.specs.Refusals.{REFS}
 use Rattle.scheme.specs.Res.{Res, bad, ok, then, check, refusal}
 use Rattle.scheme.specs.Bits.{cropped}
 use Rattle.scheme.specs.Bytes.{chunk, field, fields}
@@ -102,18 +103,18 @@ module _ (b : List ℕ) (size : ℕ) where
         second d1 (ok d2) = let e : p + 1 + 1 ≡ p + 2 = omega arith in rw e (body-tie d1 d2 (p + 2))
 
         tested : (d1 : ℕ) (t : Bool)
-            → (then (check t (refusal 11 p)) λ _. then (field b (p + 1) 1) λ d2. rawBody b size d1 d2 (p + 2))
+            → (then (check t (refusal REFS p)) λ _. then (field b (p + 1) 1) λ d2. rawBody b size d1 d2 (p + 2))
             ≡ cells
-            (then (check t (refusal 11 p)) λ _.
+            (then (check t (refusal REFS p)) λ _.
             then (then (field b (p + 1) 1) λ x. ok (record { it = x; next = p + 1 + 1 })) λ (d2 : Past ℕ). bodyAt b size d1 (d2 .it) (d2 .next))
         tested d1 false = refl
         tested d1 true = second d1 (field b (p + 1) 1)
 
         first : (x : Res ℕ)
-            → (then x λ d1. then (check (leb (d1 % 8) 4) (refusal 11 p)) λ _. then (field b (p + 1) 1) λ d2. rawBody b size d1 d2 (p + 2))
+            → (then x λ d1. then (check (leb (d1 % 8) 4) (refusal REFS p)) λ _. then (field b (p + 1) 1) λ d2. rawBody b size d1 d2 (p + 2))
             ≡ cells
             (then (then x λ v. ok (record { it = v; next = p + 1 })) λ (d1 : Past ℕ).
-            then (check (leb (d1 .it % 8) 4) (refusal 11 p)) λ _.
+            then (check (leb (d1 .it % 8) 4) (refusal REFS p)) λ _.
             then (then (field b (d1 .next) 1) λ v. ok (record { it = v; next = d1 .next + 1 })) λ (d2 : Past ℕ).
             bodyAt b size (d1 .it) (d2 .it) (d2 .next))
         first (bad r) = refl

@@ -25,6 +25,7 @@ use memory::zero_numbers;
 use raw_cell::RawCellAnswer;
 use raw_cell::copy_data;
 use raw_cell::raw_cell;
+use scheme::DATA_LEN;
 use scheme::Refusal;
 use scheme::STORE;
 use store::Added;
@@ -92,7 +93,7 @@ fn place_cell(
     match raw_cell(reply, at as usize, size) {
         RawCellAnswer::Refused(r) => Added::Refused(r),
         RawCellAnswer::Cell(f) => {
-            let mut block = [0u8; 128];
+            let mut block = [0u8; DATA_LEN];
             copy_data(reply, f.body, f.bits, &mut block);
             let n = f.refs as usize;
             let mut refs = [0u32; 4];

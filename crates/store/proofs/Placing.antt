@@ -5,6 +5,7 @@ use mathlib.Core.List.{List, [], _∷_, _++_, append-nil}
 use native.Mathlib.Omega.{arith}
 use lib.ListN.{length, getD, take, drop, replicate, length-take, length-drop, drop-of-length-le}
 use borrow.Author.Tests.{le-leb, lt-leb}
+use Rattle.scheme.specs.Refusals.{FULL}
 use Rattle.scheme.specs.Res.{bad, ok, refusal}
 use Rattle.scheme.specs.Bits.{bytesFor}
 use Rattle.scheme.specs.Cells.{Cell, find, insert}
@@ -45,11 +46,11 @@ module _ (n : ℕ) (t d : List ℕ) (c : Cell) (s : SoundMemory n t d) where
     new : insert (cellsOf n t d) c ≡ cellsOf n t d ++ c ∷ []
     new = insert-new (cellsOf n t d) c (sym e ∙ sym (cells-length n t d))
 
-    is-full : length t / 7 ≤ n → placed (length t / 7) (cellsOf n t d) c ≡ bad (refusal 18 0)
+    is-full : length t / 7 ≤ n → placed (length t / 7) (cellsOf n t d) c ≡ bad (refusal FULL 0)
     unfolding placed
     is-full h = rw (new, count-snoc n t d c, lt-leb (n + 1) (length t / 7) (omega arith))
 
-    pub places-full : length t / 7 ≤ n → Places n t d c (Refused (refusal 18 0)) n t d
+    pub places-full : length t / 7 ≤ n → Places n t d c (Refused (refusal FULL 0)) n t d
     places-full h = record { answer = rw (is-full h); count = rw (is-full h); table = rw (is-full h); bytes = rw (is-full h) }
 
     is-new : n < length t / 7 → placed (length t / 7) (cellsOf n t d) c ≡ ok (record { number = n; store = cellsOf n t d ++ c ∷ [] })

@@ -5,6 +5,7 @@ use mathlib.Core.List.{List, [], _∷_}
 use native.Mathlib.Omega.{arith}
 use lib.ListN.{length}
 use borrow.Author.Tests.{le-leb, lt-leb}
+use Rattle.scheme.specs.Refusals.{NOROOM}
 use Rattle.scheme.specs.Res.{Res, bad, ok, refusal}
 use Rattle.scheme.specs.declared.Refusal.{Refusal}
 use Rattle.scheme.specs.Cells.{Cell}
@@ -39,7 +40,7 @@ module _ (n : ℕ) (t d : List ℕ) (i : ℕ) (o : List ℕ) where
     fits : length (c .bytes) ≤ length o → dataIn (length o) (asking n t d i) ≡ ok (c .bytes)
     fits h = rw (e, le-leb (length (c .bytes)) (length o) h)
 
-    over : length o < length (c .bytes) → dataIn (length o) (asking n t d i) ≡ bad (refusal 20 (length (c .bytes)))
+    over : length o < length (c .bytes) → dataIn (length o) (asking n t d i) ≡ bad (refusal NOROOM (length (c .bytes)))
     over h = rw (e, lt-leb (length (c .bytes)) (length o) h)
 
   module _ (own : List ℕ) (p : own ≡ dataOf (asking n t d i)) where
@@ -52,7 +53,7 @@ module _ (n : ℕ) (t d : List ℕ) (i : ℕ) (o : List ℕ) where
           go (ok c) e =
               let q : own ≡ c .bytes = p ∙ ap (λ (y : Res Cell). dataOf y) e in
               let k : length o < length (c .bytes) = rw q at h in
-              rw q (copy-is (bad (refusal 20 (length (c .bytes)))) (over c e k))
+              rw q (copy-is (bad (refusal NOROOM (length (c .bytes)))) (over c e k))
 
       pub copy-done : length own ≤ length o → (o′ : List ℕ) → o′ ≡ puts o 0 own → WireCopies n t d i o 0 o′ (length own ∷ [])
       copy-done h o′ w = go (asking n t d i) refl

@@ -6,6 +6,7 @@ use mathlib.Core.List.{List, [], _∷_}
 use native.Mathlib.Omega.{arith}
 use lib.ListN.{length, take}
 use lib.Dec.{eqb, leb, ltb}
+use Rattle.scheme.specs.Refusals.{STORE, CUT}
 use Rattle.scheme.specs.Res.{Res, bad, ok, then, check, refusal}
 use Rattle.scheme.specs.declared.Refusal.{Refusal}
 use Rattle.scheme.specs.Bytes.{unle, chunk, field, fields as numbersIn}
@@ -207,7 +208,7 @@ module _ (n : ℕ) (t d : List ℕ) where
 
   pub clear-answer : Numbered ((clearing n t d) .answer)
   unfolding clearing
-  clear-answer = go (check (sized t d) (refusal 1 0)) (test (sized t d) 1 0 (omega arith))
+  clear-answer = go (check (sized t d) (refusal STORE 0)) (test (sized t d) 1 0 (omega arith))
     where
       go : (x : Res (Unit {0})) → Numbered x → Numbered ((clearOut n t d x) .answer)
       go (bad r) h = h
@@ -225,9 +226,9 @@ module _ (n : ℕ) (t d : List ℕ) where
   unfolding offering
   add-answer flag bits own refs = go (leb bits (8 * length own))
     where
-      go : (b : Bool) → Numbered ((unless n t d (check b (refusal 2 0)) (adding n t d (wireCell flag bits own refs))) .answer)
+      go : (b : Bool) → Numbered ((unless n t d (check b (refusal CUT 0)) (adding n t d (wireCell flag bits own refs))) .answer)
       go true = adding-answer (wireCell flag bits own refs)
-      go false = refused (refusal 2 0) (omega arith)
+      go false = refused (refusal CUT 0) (omega arith)
 
   pub cell-answer : (i : ℕ) → Numbered (asking n t d i)
   unfolding asking

@@ -9,6 +9,7 @@ use native.Mathlib.Omega.{arith}
 use lib.ListN.{length, drop, getD, replicate}
 use lib.Dec.{ltb, leb}
 use borrow.Author.Tests.{lt-leb, le-leb, ltb-true, ltb-false, leb-true, leb-false}
+use Rattle.scheme.specs.Refusals.{STORE, SCRATCH, NOCELL, NOROOM, DEEP, BUDGET}
 use Rattle.scheme.specs.declared.Refusal.{Refusal}
 use Rattle.scheme.specs.Res.{Res, bad, ok, refusal}
 use Rattle.scheme.specs.Cells.{at}
@@ -63,15 +64,15 @@ module _ (n : ℕ) (t d : List ℕ) (i budget scratch room : ℕ) where
   abbrev Said : Res Page
   Said = pageAt n t d i budget scratch room
 
-  pub no-store : sound n t d ≡ false → Said ≡ bad (refusal 1 0)
+  pub no-store : sound n t d ≡ false → Said ≡ bad (refusal STORE 0)
   no-store e = rw (lent-store 1 n t d i scratch e)
 
   module _ (e : sound n t d ≡ true) where
-    pub no-cell : n ≤ i → Said ≡ bad (refusal 19 0)
+    pub no-cell : n ≤ i → Said ≡ bad (refusal NOCELL 0)
     no-cell h = rw (lent-nocell 1 n t d i scratch e h)
 
     module _ (h : i < n) where
-      pub no-scratch : scratch < n → Said ≡ bad (refusal 9 n)
+      pub no-scratch : scratch < n → Said ≡ bad (refusal SCRATCH n)
       no-scratch k =
           let q : 1 * n ≡ n = omega arith in
           rw (lent-scratch 1 n t d i scratch e h (omega arith), q)
@@ -90,17 +91,17 @@ module _ (n : ℕ) (t d : List ℕ) (i budget scratch room : ℕ) where
         long : textOf (at (cellsOf n t d)) i ≡ textAt t d i
         long = value-cells textStep [] t d n i h
 
-        pub too-deep : 256 < height (cellAt t d) i → Said ≡ bad (refusal 23 0)
+        pub too-deep : 256 < height (cellAt t d) i → Said ≡ bad (refusal DEEP 0)
         unfolding page
         too-deep p = rw (paged, high, lt-leb (height (cellAt t d) i) 256 p)
 
         module _ (p : height (cellAt t d) i ≤ 256) where
-          pub over-budget : min budget 65535 < sizeAt t d i → Said ≡ bad (refusal 24 (min budget 65535))
+          pub over-budget : min budget 65535 < sizeAt t d i → Said ≡ bad (refusal BUDGET (min budget 65535))
           unfolding page
           over-budget q = rw (paged, high, le-leb (height (cellAt t d) i) 256 p, many, lt-leb (sizeAt t d i) (min budget 65535) q)
 
           module _ (q : sizeAt t d i ≤ min budget 65535) where
-            pub no-room : room < length (textAt t d i) → Said ≡ bad (refusal 20 (length (textAt t d i)))
+            pub no-room : room < length (textAt t d i) → Said ≡ bad (refusal NOROOM (length (textAt t d i)))
             unfolding page
             no-room r = rw (paged, high, le-leb (height (cellAt t d) i) 256 p, many, le-leb (sizeAt t d i) (min budget 65535) q, long, lt-leb (length (textAt t d i)) room r)
 

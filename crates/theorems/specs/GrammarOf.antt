@@ -11,7 +11,7 @@ use lib.Seq.{drop-drop}
 use lib.Dec.{eqb, leb}
 use borrow.Author.Tests.{leb-true, eqb-true, eqb-false, not-true}
 use Rattle.scheme.specs.Limits.{maxRefs}
-use Rattle.scheme.specs.Refusals.{REFS}
+use Rattle.scheme.specs.Refusals.{REFS, PADDING}
 use Rattle.scheme.specs.Res.{ok, check, refusal}
 use Rattle.scheme.specs.Bytes.{be, unbe, le, unle, chunk, field, fields}
 use Rattle.scheme.specs.Bits.{bitOf, lastOf, zeros, unmark}
@@ -161,8 +161,8 @@ bits-of : (odd : Bool) (q : ℕ) (xs : List ℕ) (w : Bits) → bits odd q xs �
 unfolding bits
 bits-of false q xs w e = (cc, cc, λ o. let z : _≡_ {A = ℕ} 0 1 = cc in absurd (omega arith))
 bits-of true q xs w e =
-    then-use (check (not (eqb (lastOf xs) 0)) (refusal 12 q)) _ _ e λ u c e₁.
-    (cc, cc, λ o. eqb-false (lastOf xs) 0 (not-true (eqb (lastOf xs) 0) (check-inv (not (eqb (lastOf xs) 0)) (refusal 12 q) u c)))
+    then-use (check (not (eqb (lastOf xs) 0)) (refusal PADDING q)) _ _ e λ u c e₁.
+    (cc, cc, λ o. eqb-false (lastOf xs) 0 (not-true (eqb (lastOf xs) 0) (check-inv (not (eqb (lastOf xs) 0)) (refusal PADDING q) u c)))
 
 module _ (b : List ℕ) (S : Small b) (size p : ℕ) (d1 d2 : ℕ) (hs xs rs : List ℕ) (w : Bits) where
   abbrev odd : Bool

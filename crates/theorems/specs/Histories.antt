@@ -10,7 +10,7 @@ use lib.ListN.{length, take, drop, replicate, length-append, length-replicate}
 use lib.Seq.{take-at}
 use lib.Dec.{leb, ltb}
 use borrow.Author.Tests.{ltb-true}
-use Rattle.scheme.specs.Refusals.{STORE}
+use Rattle.scheme.specs.Refusals.{STORE, SCRATCH, NOCELL}
 use Rattle.scheme.specs.Res.{Res, bad, ok, then, check, refusal}
 use Rattle.scheme.specs.Cells.{Cell, at, tree}
 use Rattle.scheme.specs.Memory.{cellsOf, sized, sound, held, rows, layTable, layBytes}
@@ -183,9 +183,9 @@ module _ (cap : ℕ) (few : cap ≤ 4096) (s : List Cell) (K : Kept cap s) where
   named k root scratch s′ e =
       then-use (held (length s) T D) _ _ e λ s₁ x₁ e₁.
       let q : s ≡ s₁ = let z = sym held-here ∙ x₁ in cc in
-      then-use (check (ltb root (length s₁)) (refusal 19 0)) _ _ e₁ λ u₂ x₂ e₂.
-      then-use (check (leb (k * length s₁) scratch) (refusal 9 (k * length s₁))) _ _ e₂ λ u₃ x₃ e₃.
-      let h = ltb-true root (length s₁) (check-inv (ltb root (length s₁)) (refusal 19 0) u₂ x₂) in
+      then-use (check (ltb root (length s₁)) (refusal NOCELL 0)) _ _ e₁ λ u₂ x₂ e₂.
+      then-use (check (leb (k * length s₁) scratch) (refusal SCRATCH (k * length s₁))) _ _ e₂ λ u₃ x₃ e₃.
+      let h = ltb-true root (length s₁) (check-inv (ltb root (length s₁)) (refusal NOCELL 0) u₂ x₂) in
       let z : s₁ ≡ s′ = cc in
       (q ∙ z, rw q h)
 

@@ -3,6 +3,7 @@
 use builder::Built;
 use builder::CellBuilder;
 use builder::Verdict;
+use scheme::DATA_LEN;
 
 const MAX: usize = 18446744073709551615;
 
@@ -96,7 +97,7 @@ fn try_stale() -> CellBuilder {
     let stale = CellBuilder {
         exotic: true,
         len: 5,
-        bytes: [0xff; 128],
+        bytes: [0xff; DATA_LEN],
         count: 1,
         refs: [1, 2, 3, 4],
     };
@@ -111,7 +112,7 @@ fn try_odd() -> CellBuilder {
     let odd = CellBuilder {
         exotic: false,
         len: MAX,
-        bytes: [0; 128],
+        bytes: [0; DATA_LEN],
         count: MAX,
         refs: [0; 4],
     };

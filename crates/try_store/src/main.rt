@@ -1,6 +1,7 @@
 // Runs the store on real memory: clear, add (a new cell, a held one, each refusal), cell and its data; a batch.
 use add_many::AddedMany;
 use builder::CellBuilder;
+use scheme::DATA_LEN;
 use store::Added;
 use store::Asked;
 use store::Cleared;
@@ -56,7 +57,7 @@ fn try_cell(count: usize, table: &[u32], bytes: &[u8], n: usize) {
 
 // A cell whose first two data bytes and references are given, and whose other bytes are all ones.
 fn cell_of(exotic: bool, len: usize, b0: u8, b1: u8, count: usize, refs: [u32; 4]) -> CellBuilder {
-    let mut bytes = [255u8; 128];
+    let mut bytes = [255u8; DATA_LEN];
     bytes[0] = b0;
     bytes[1] = b1;
     CellBuilder {

@@ -5,6 +5,7 @@ use native.Mathlib.Omega.{arith}
 use lib.ListN.{length}
 use borrow.Author.Needs.{needs}
 use borrow.Author.Tests.{not-true, not-false}
+use Rattle.scheme.specs.Refusals.{NOROOM, BUDGET}
 use Rattle.scheme.specs.Memory.{cellAt}
 use Rattle.scheme.specs.Res.{refusal}
 use Rattle.scheme.specs.Text.{height}
@@ -73,7 +74,7 @@ returns-5 c =
     let D = a .bytes .now in
     let m = c .before .before .before .before .before .allowed .ensures in
     let p : height (cellAt (a .table .now) D) (a .n) ≤ 256 = omega (arith, c .before .before .before .before .before .before .before .before .before .height-of .ensures D, c .before .before .before .before .before .before .if4 .left) in
-    ap (λ x. No (refusal 24 x)) m
+    ap (λ x. No (refusal BUDGET x)) m
     ∙ ap verdictOf (sym (over-budget _ _ _ _ _ _ _ e (c .before .before .before .before .before .before .before .before .before .before .before .before .if2 .left) (c .before .before .before .before .before .before .before .before .before .before .before .if3 .left) p (omega (arith, c .before .before .before .size-of .ensures D, m, c .if5 .taken))))
 
 length-of-requires : tie.Need-length-of-requires
@@ -102,7 +103,7 @@ returns-6 c =
     let cells : CellsOk T D (a .n + 1) = λ i l. sound-cells _ _ _ e i (omega arith) in
     let l : (a .n + 1) * 128 ≤ length D = omega (arith, cells (a .n) (omega arith) .bytes) in
     let z : c .before .before .before .length-of .result ≡ length (textAt T D (a .n)) = omega (arith, c .before .before .before .length-of .ensures D l, text-bound T D (a .n) cells, q) in
-    ap (λ x. No (refusal 20 x)) z ∙ ap verdictOf (sym (no-room _ _ _ _ _ _ _ e h (c .before .before .before .before .before .before .before .before .before .before .before .before .before .before .before .before .if3 .left) p q (omega (arith, z, c .if6 .taken))))
+    ap (λ x. No (refusal NOROOM x)) z ∙ ap verdictOf (sym (no-room _ _ _ _ _ _ _ e h (c .before .before .before .before .before .before .before .before .before .before .before .before .before .before .before .before .if3 .left) p q (omega (arith, z, c .if6 .taken))))
 
 same-length-4 : tie.Need-same-length-4
 same-length-4 c = search needs
