@@ -12,7 +12,8 @@ cells-in-requires c κs = search needs
 
 returns : tie.Need-returns
 returns c =
-    let a = c .before .before .before .before .before .before .before .args in
+    let start : tie.Start = search needs in
+    let a = start .args in
     many-as (a .heads .now) (a .blocks .now) _ _ (a .count .now) (a .table .now) (a .bytes .now) (a .numbers .now) _ _ _ _ _ (c .before .cells-in .ensures)
     (many-none (a .heads .now) (a .blocks .now) (c .before .cells-in .result) (a .count .now) (a .table .now) (a .bytes .now) (a .numbers .now) (c .if1 .taken))
 
@@ -27,20 +28,26 @@ same-length-2 c = search needs
 
 returns-2 : tie.Need-returns-2
 returns-2 c =
-    let a = c .before .before .before .before .before .before .before .before .before .before .before .before .args in
+    let else1 : tie.Else1 = search needs in
+    let at-cells-in : tie.After-cells-in = search needs in
+    let start : tie.Start = search needs in
+    let a = start .args in
     many-as (a .heads .now) (a .blocks .now) _ _ (a .count .now) (a .table .now) (a .bytes .now) (a .numbers .now) _ _ _ _ _
-    (c .before .before .before .before .before .before .cells-in .ensures)
-    (many-store (a .heads .now) (a .blocks .now) (c .before .before .before .before .before .before .cells-in .result) (a .count .now) (a .table .now) (a .bytes .now)
-    (a .numbers .now) (c .before .before .before .before .before .if1 .left) (sym (c .before .is-sound .ensures) ∙ not-true _ (c .if2 .taken)))
+    (at-cells-in .cells-in .ensures)
+    (many-store (a .heads .now) (a .blocks .now) (at-cells-in .cells-in .result) (a .count .now) (a .table .now) (a .bytes .now)
+    (a .numbers .now) (else1 .if1 .left) (sym (c .before .is-sound .ensures) ∙ not-true _ (c .if2 .taken)))
 
 add-each-requires : tie.Need-add-each-requires
-add-each-requires c κs = (
-  sym (c .before .before .before .before .before .is-sound .ensures) ∙ not-false _ (c .before .before .before .before .if2 .left),
-  cells-fit
-      (length (c .before .before .before .before .before .before .before .before .before .before .before .before .before .before .before .before .args .heads .now))
-      (length (c .before .before .before .before .before .before .before .before .before .before .before .before .before .before .before .before .args .blocks .now))
-      (length (c .before .before .before .before .before .before .before .before .before .before .before .before .before .before .before .before .args .numbers .now)) (c .before .before .before .before .before .before .before .before .before .before .cells-in .result) (c .before .before .before .before .before .before .before .before .before .before .cells-in .ensures),
-)
+add-each-requires c κs =
+    let at-is-sound : tie.After-is-sound = search needs in
+    let at-cells-in : tie.After-cells-in = search needs in
+    let start : tie.Start = search needs in (
+      sym (at-is-sound .is-sound .ensures) ∙ not-false _ (c .before .before .before .before .if2 .left),
+      cells-fit
+          (length (start .args .heads .now))
+          (length (start .args .blocks .now))
+          (length (start .args .numbers .now)) (at-cells-in .cells-in .result) (at-cells-in .cells-in .ensures),
+    )
 
 same-length-3 : tie.Need-same-length-3
 same-length-3 c = search needs
@@ -53,10 +60,13 @@ same-length-5 c = search needs
 
 returns-3 : tie.Need-returns-3
 returns-3 c =
-    let a = c .before .before .before .before .before .before .before .before .before .before .before .before .before .before .before .before .before .before .before .before .before .before .before .args in
+    let at-add-each : tie.After-add-each = search needs in
+    let at-cells-in : tie.After-cells-in = search needs in
+    let start : tie.Start = search needs in
+    let a = start .args in
     many-as (a .heads .now) (a .blocks .now) _ _ (a .count .now) (a .table .now) (a .bytes .now) (a .numbers .now) _ _ _ _ _
-    (c .before .before .before .before .before .before .before .before .before .before .before .before .before .before .before .before .before .cells-in .ensures)
-    (c .before .before .before .before .before .before .add-each .ensures)
+    (at-cells-in .cells-in .ensures)
+    (at-add-each .add-each .ensures)
 
 pub add-many-spec : {M : Type 1} → statement M
 add-many-spec =

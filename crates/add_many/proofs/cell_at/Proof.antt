@@ -81,10 +81,13 @@ shared-slice-read-t35 c = search needs
 
 returns : tie.Need-returns
 returns c =
-    let a = c .before .before .before .before .before .before .before .before .before .before .before .before .before .args in
+    let at-field : tie.After-field = search needs in
+    let at-put-bytes : tie.After-put-bytes = search needs in
+    let start : tie.Start = search needs in
+    let a = start .args in
     builder-is (a .heads .now) (a .blocks .now) (a .i) _ _ _ (block-copied (a .blocks .now) (replicate 128 0) _ (a .i * 128) (omega arith)
-    (length-replicate {A = ℕ} 128 0) (c .before .before .before .before .before .before .before .before .put-bytes .ensures .1))
-    (c .before .before .before .before .before .field .ensures) (c .before .before .before .before .field2 .ensures)
+    (length-replicate {A = ℕ} 128 0) (at-put-bytes .put-bytes .ensures .1))
+    (at-field .field .ensures) (c .before .before .before .before .field2 .ensures)
 
 pub cell-at-spec : {M : Type 1} → statement M
 cell-at-spec =

@@ -34,7 +34,9 @@ cell d =
     frame-ok _ (λ j. omega (arith, k .before .shared-slice-known .given j)) _ _ _ (sym (k .raw-cell .ensures) ∙ ap paperOf (d .f .given .1))
 
 check-refs-requires : tie.Need-check-refs-requires
-check-refs-requires c κs = (c .before .before .before .before .before .before .pre .0, cell (c .before .before) .room)
+check-refs-requires c κs =
+    let start : tie.Start = search needs in
+    (start .pre .0, cell (c .before .before) .room)
 
 returns : tie.Need-returns
 returns c =

@@ -29,8 +29,9 @@ enum-known-r c = search needs
 
 returns : tie.Need-returns Inv-loop μ-loop
 returns c =
+    let start : tie.Start Inv-loop μ-loop = search needs in
     let l = c .before .before .before .before .before .loop in
-    let a = c .before .before .before .before .before .before .before .args in
+    let a = start .args in
     let e : a .count - l .i ≡ suc (a .count - (l .i + 1)) = omega arith in
     let s = sym (c .before .before .before .skip-bytes .ensures) ∙ ap skipPaper (c .before .r .given .1) in
     sym (skip-fields-cut (now (a .bytes)) (a .width) (a .count - (l .i + 1)) (l .place) _ s) ∙ rw e at (l .inv .1)
@@ -46,8 +47,9 @@ loop-less c = search needs
 
 loop-again : tie.Need-loop-again Inv-loop μ-loop
 loop-again c =
+    let start : tie.Start Inv-loop μ-loop = search needs in
     let l = c .before .before .before .before .before .loop in
-    let a = c .before .before .before .before .before .before .before .args in
+    let a = start .args in
     let e : a .count - l .i ≡ suc (a .count - (l .i + 1)) = omega arith in
     let s = sym (c .before .before .before .skip-bytes .ensures) ∙ ap skipPaper (c .before .p .given .1) in (
       omega arith,

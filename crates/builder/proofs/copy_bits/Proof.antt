@@ -4,6 +4,7 @@ use Prim.Native.Nat.{_≤_, _-_, _<_}
 use native.Mathlib.Omega.{arith}
 use lib.ListN.{length, take}
 use lib.Seq.{getD-take}
+use borrow.Author.Needs.{needs}
 use Rattle.laws.specs.Puts.{puts, puts-nil}
 use Rattle.scheme.specs.Bits.{bitOf, bitsOf, firstBits}
 use Rattle.laws.specs.BitLaws.{AllBytes, length-first, put-next, put-all}
@@ -39,7 +40,7 @@ loop-less c = omega arith
 
 loop-again : tie.Need-loop-again Inv-loop μ-loop
 loop-again c =
-    let s = c .before .before .before .before .before .before .before .before .before in
+    let s : tie.Start Inv-loop μ-loop = search needs in
     let from = s .args .from .now in
     let n = s .args .n in
     let l = c .before .before .before .before .before .before .loop in

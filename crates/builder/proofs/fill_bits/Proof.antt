@@ -3,6 +3,7 @@ use mathlib.Core.Path.{_≡_, refl, sym, _∙_}
 use Prim.Native.Nat.{_≤_, _-_, _<_}
 use native.Mathlib.Omega.{arith}
 use lib.ListN.{length, take, replicate, length-replicate, getD-replicate}
+use borrow.Author.Needs.{needs}
 use Rattle.laws.specs.Puts.{puts, puts-nil}
 use Rattle.scheme.specs.Bits.{bitOf, bitsOf}
 use Rattle.laws.specs.BitLaws.{AllBytes, put-next, put-all}
@@ -35,7 +36,7 @@ loop-less c = omega arith
 
 loop-again : tie.Need-loop-again Inv-loop μ-loop
 loop-again c =
-    let s = c .before .before .before .before .before .before .before in
+    let s : tie.Start Inv-loop μ-loop = search needs in
     let v = bitOf (s .args .bit) in
     let n = s .args .n in
     let l = c .before .before .before .before .before .loop in

@@ -36,14 +36,15 @@ loop-less : tie.Need-loop-less Inv-loop μ-loop
 loop-less c = search needs
 
 loop-again : tie.Need-loop-again Inv-loop μ-loop
-loop-again c = (
-  search needs,
-  search needs,
-  search needs,
-  run-next (c .before .before .before .before .before .before .args .bytes .now) (c .before .before .before .before .loop .i)
-      (c .before .before .before .before .loop .state) (omega arith)
-      (c .crc-byte .ensures) ∙ c .before .before .before .before .loop .inv .3,
-)
+loop-again c =
+    let start : tie.Start Inv-loop μ-loop = search needs in (
+      search needs,
+      search needs,
+      search needs,
+      run-next (start .args .bytes .now) (c .before .before .before .before .loop .i)
+          (c .before .before .before .before .loop .state) (omega arith)
+          (c .crc-byte .ensures) ∙ c .before .before .before .before .loop .inv .3,
+    )
 
 returns : tie.Need-returns Inv-loop μ-loop
 returns c = run-end (c .before .before .before .args .bytes .now) (c .before .loop .i) (omega arith) ∙ c .before .loop .inv .3

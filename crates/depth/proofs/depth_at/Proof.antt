@@ -30,7 +30,8 @@ add-all-depths c = search needs
 
 all-depths-requires : tie.Need-all-depths-requires
 all-depths-requires c κs =
-    let a = c .before .before .before .before .before .before .before .before .args in
+    let start : tie.Start = search needs in
+    let a = start .args in
     let e = sym (c .before .before .before .before .is-sound .ensures) ∙ not-false _ (c .before .before .before .if1 .left) in
     let h : a .n < a .count = c .before .before .if2 .left in
     let k : a .count ≤ length (a .scratch .now) = omega (arith, c .before .if3 .left) in
@@ -43,27 +44,39 @@ slice-read-h : tie.Need-slice-read-h
 slice-read-h c = search needs
 
 cast-h : tie.Need-cast-h
-cast-h c = omega (arith, c .slice-known3 .given (c .before .before .before .before .before .before .before .before .before .before .before .before .args .n))
+cast-h c =
+    let start : tie.Start = search needs in
+    omega (arith, c .slice-known3 .given (start .args .n))
 
 same-length : tie.Need-same-length
 same-length c = search needs
 
 returns-4 : tie.Need-returns-4
 returns-4 c =
-    let a = c .before .before .before .before .before .before .before .before .before .before .before .before .before .args in
-    let e = sym (c .before .before .before .before .before .before .before .before .before .is-sound .ensures) ∙ not-false _ (c .before .before .before .before .before .before .before .before .if1 .left) in
+    let else3 : tie.Else3 = search needs in
+    let else2 : tie.Else2 = search needs in
+    let else1 : tie.Else1 = search needs in
+    let at-is-sound : tie.After-is-sound = search needs in
+    let start : tie.Start = search needs in
+    let a = start .args in
+    let e = sym (at-is-sound .is-sound .ensures) ∙ not-false _ (else1 .if1 .left) in
     let g = cut-last depthStep 65536 (caps-depth 65536) (a .table .now) (a .bytes .now) (a .n) _ (drop (a .n + 1) (a .scratch .now)) (c .before .before .before .before .all-depths .ensures) in
-    too-deep _ _ _ _ _ e (c .before .before .before .before .before .before .before .if2 .left) (omega (arith, c .before .before .before .before .before .before .if3 .left)) (omega (arith, g, c .if4 .taken))
+    too-deep _ _ _ _ _ e (else2 .if2 .left) (omega (arith, else3 .if3 .left)) (omega (arith, g, c .if4 .taken))
 
 same-length-2 : tie.Need-same-length-2
 same-length-2 c = search needs
 
 returns-5 : tie.Need-returns-5
 returns-5 c =
-    let a = c .before .before .before .before .before .before .before .before .before .before .before .before .before .args in
-    let e = sym (c .before .before .before .before .before .before .before .before .before .is-sound .ensures) ∙ not-false _ (c .before .before .before .before .before .before .before .before .if1 .left) in
+    let else3 : tie.Else3 = search needs in
+    let else2 : tie.Else2 = search needs in
+    let else1 : tie.Else1 = search needs in
+    let at-is-sound : tie.After-is-sound = search needs in
+    let start : tie.Start = search needs in
+    let a = start .args in
+    let e = sym (at-is-sound .is-sound .ensures) ∙ not-false _ (else1 .if1 .left) in
     let g = cut-last depthStep 65536 (caps-depth 65536) (a .table .now) (a .bytes .now) (a .n) _ (drop (a .n + 1) (a .scratch .now)) (c .before .before .before .before .all-depths .ensures) in
-    levels _ _ _ _ _ e (c .before .before .before .before .before .before .before .if2 .left) (omega (arith, c .before .before .before .before .before .before .if3 .left)) _ (omega (arith, g, c .if4 .left)) (omega (arith, c .if4 .left))
+    levels _ _ _ _ _ e (else2 .if2 .left) (omega (arith, else3 .if3 .left)) _ (omega (arith, g, c .if4 .left)) (omega (arith, c .if4 .left))
 
 pub depth-at-spec : {M : Type 1} → statement M
 depth-at-spec =

@@ -23,12 +23,14 @@ over-refs-requires c κs = search needs
 
 returns : tie.Need-returns
 returns c =
-    let a = c .before .before .before .before .before .before .before .before .args in
+    let start : tie.Start = search needs in
+    let a = start .args in
     c .least .ensures ∙ ap (min (a .cap)) (sym (step-is _ _ _ (sym (c .before .before .before .before .pruned-at .ensures) ∙ c .before .before .p .given .1)))
 
 returns-2 : tie.Need-returns-2
 returns-2 c =
-    let a = c .before .before .before .before .before .before .before .args in
+    let start : tie.Start = search needs in
+    let a = start .args in
     c .over-refs .ensures ∙ ap (min (a .cap)) (sym (step-not _ _ (sym (c .before .before .before .pruned-at .ensures) ∙ c .before .enum-told .given .1)))
 
 pub depth-step-spec : {M : Type 1} → statement M

@@ -43,9 +43,10 @@ shared-slice-read-first c = search needs
 
 returns-3 : tie.Need-returns-3
 returns-3 c =
+    let at-field : tie.After-field = search needs in
     let s : tie.Start = search needs in
     let a = s .args in
-    let x : c .before .before .before .before .before .field .result ≡ getD (a .table .now) (a .i * 7) 0 = c .before .before .before .before .before .field .ensures ∙ ap (λ k. getD (a .table .now) k 0) (add-zero (a .i * 7)) in
+    let x : at-field .field .result ≡ getD (a .table .now) (a .i * 7) 0 = at-field .field .ensures ∙ ap (λ k. getD (a .table .now) k 0) (add-zero (a .i * 7)) in
     let b = ap (λ k. (k + 7) / 8) (c .before .before .before .field2 .ensures) in
     sym (not-first (a .table .now) (a .bytes .now) (a .i) _ _ (s .pre) x b (c .before .before .before .before .if1 .left) (c .before .before .if2 .left) (c .if3 .taken))
 
@@ -57,26 +58,32 @@ shared-slice-read-levels c = search needs
 
 cast-levels : tie.Need-cast-levels
 cast-levels c =
-    let a = c .before .before .before .before .before .before .before .before .before .args in
+    let start : tie.Start = search needs in
+    let a = start .args in
     omega (arith, ones-le 8 (getD (a .bytes .now) (a .i * 128 + 1) 0) (c .shared-slice-known4 .given (a .i * 128 + 1) .fits))
 
 mul-if4 : tie.Need-mul-if4
 mul-if4 c =
-    let a = c .before .before .before .before .before .before .before .before .before .args in
+    let start : tie.Start = search needs in
+    let a = start .args in
     omega (arith, ones-le 8 (getD (a .bytes .now) (a .i * 128 + 1) 0) (c .shared-slice-known4 .given (a .i * 128 + 1) .fits))
 
 add-if4 : tie.Need-add-if4
 add-if4 c =
-    let a = c .before .before .before .before .before .before .before .before .before .args in
+    let start : tie.Start = search needs in
+    let a = start .args in
     omega (arith, ones-le 8 (getD (a .bytes .now) (a .i * 128 + 1) 0) (c .shared-slice-known4 .given (a .i * 128 + 1) .fits))
 
 returns-4 : tie.Need-returns-4
 returns-4 c =
+    let at-field2 : tie.After-field2 = search needs in
+    let else1 : tie.Else1 = search needs in
+    let at-field : tie.After-field = search needs in
     let s : tie.Start = search needs in
     let a = s .args in
-    let x : c .before .before .before .before .before .before .before .field .result ≡ getD (a .table .now) (a .i * 7) 0 = c .before .before .before .before .before .before .before .field .ensures ∙ ap (λ k. getD (a .table .now) k 0) (add-zero (a .i * 7)) in
-    let b = ap (λ k. (k + 7) / 8) (c .before .before .before .before .before .field2 .ensures) in
-    sym (not-whole (a .table .now) (a .bytes .now) (a .i) _ _ (s .pre) x b (c .before .before .before .before .before .before .if1 .left) (c .before .before .before .before .if2 .left) (c .before .before .if3 .left) (c .if4 .taken))
+    let x : at-field .field .result ≡ getD (a .table .now) (a .i * 7) 0 = at-field .field .ensures ∙ ap (λ k. getD (a .table .now) k 0) (add-zero (a .i * 7)) in
+    let b = ap (λ k. (k + 7) / 8) (at-field2 .field2 .ensures) in
+    sym (not-whole (a .table .now) (a .bytes .now) (a .i) _ _ (s .pre) x b (else1 .if1 .left) (c .before .before .before .before .if2 .left) (c .before .before .if3 .left) (c .if4 .taken))
 
 mul-p : tie.Need-mul-p
 mul-p c = search needs
@@ -116,16 +123,21 @@ add-t23 c = search needs
 
 returns-5 : tie.Need-returns-5
 returns-5 c =
+    let else3 : tie.Else3 = search needs in
+    let else2 : tie.Else2 = search needs in
+    let at-field2 : tie.After-field2 = search needs in
+    let else1 : tie.Else1 = search needs in
+    let at-field : tie.After-field = search needs in
     let s : tie.Start = search needs in
     let a = s .args in
     let D = a .bytes .now in
-    let x : c .before .before .before .before .before .before .before .before .before .before .before .field .result ≡ getD (a .table .now) (a .i * 7) 0 = c .before .before .before .before .before .before .before .before .before .before .before .field .ensures ∙ ap (λ k. getD (a .table .now) k 0) (add-zero (a .i * 7)) in
-    let b = ap (λ k. (k + 7) / 8) (c .before .before .before .before .before .before .before .before .before .field2 .ensures) in
+    let x : at-field .field .result ≡ getD (a .table .now) (a .i * 7) 0 = at-field .field .ensures ∙ ap (λ k. getD (a .table .now) k 0) (add-zero (a .i * 7)) in
+    let b = ap (λ k. (k + 7) / 8) (at-field2 .field2 .ensures) in
     let n = ones (getD D (a .i * 128 + 1) 0) in
     let w = c .before .before .wide .ensures .0 in
     let v = c .wide2 .ensures .0 in
     let g : c .before .before .wide .result * 256 + c .wide2 .result ≡ getD D (a .i * 128 + (2 + 32 * n)) 0 * 256 + getD D (a .i * 128 + (3 + 32 * n)) 0 = omega (arith, w, v) in
-    ap Is g ∙ sym (is-pruned (a .table .now) D (a .i) _ _ (s .pre) x b (c .before .before .before .before .before .before .before .before .before .before .if1 .left) (c .before .before .before .before .before .before .before .before .if2 .left) (c .before .before .before .before .before .before .if3 .left) (c .before .before .before .before .if4 .left))
+    ap Is g ∙ sym (is-pruned (a .table .now) D (a .i) _ _ (s .pre) x b (else1 .if1 .left) (else2 .if2 .left) (else3 .if3 .left) (c .before .before .before .before .if4 .left))
 
 pub pruned-at-spec : {M : Type 1} → statement M
 pruned-at-spec =

@@ -26,7 +26,7 @@ count-refs-requires c κs =
 
 loop-holds : tie.Need-loop-holds Inv-loop μ-loop
 loop-holds c =
-    let s = c .before .before .before .before .before .before in
+    let s : tie.Start Inv-loop μ-loop = search needs in
     let e = c .before .before .count-refs .ensures in
     (omega arith, refl, λ d. rw e (omega (arith, small-bump (refsAt (s .args .table .now) (s .args .root)) [] 0 (s .args .scratch .now) (s .pre .1 .1 .1) d, refs-length (s .args .table .now) (s .args .root) (s .pre .0 (s .args .root) (omega arith)), s .pre .0 (s .args .root) (omega arith) .few)), λ n h. refl)
 
@@ -39,20 +39,23 @@ mul-if1 c =
     omega (arith, s .good)
 
 slice-read-if1 : tie.Need-slice-read-if1 Inv-loop μ-loop
-slice-read-if1 c = omega (arith, c .before .before .before .before .before .count-refs .kept .1 .1 .0)
+slice-read-if1 c =
+    let at-count-refs : tie.After-count-refs Inv-loop μ-loop = search needs in
+    omega (arith, at-count-refs .count-refs .kept .1 .1 .0)
 
 count-refs-requires-2 : tie.Need-count-refs-requires-2 Inv-loop μ-loop
 count-refs-requires-2 c κs =
-    let s = c .before .before .before .before .before .before .before .before .before .before .before in
+    let at-count-refs : tie.After-count-refs Inv-loop μ-loop = search needs in
+    let s : tie.Start Inv-loop μ-loop = search needs in
     let l = c .before .before .before .before .loop in
-    (s .pre .0 (l .i - 1) (omega arith), (omega (arith, c .before .before .before .before .before .before .before .count-refs .kept .1 .1 .0), λ d. omega (arith, l .inv .2 d)))
+    (s .pre .0 (l .i - 1) (omega arith), (omega (arith, at-count-refs .count-refs .kept .1 .1 .0), λ d. omega (arith, l .inv .2 d)))
 
 loop-less : tie.Need-loop-less Inv-loop μ-loop
 loop-less c = omega arith
 
 loop-again : tie.Need-loop-again Inv-loop μ-loop
 loop-again c =
-    let s = c .before .before .before .before .before .before .before .before .before .before .before .before .before .before in
+    let s : tie.Start Inv-loop μ-loop = search needs in
     let l = c .before .before .before .before .before .before .before .loop in
     let r = c .before .before .count-refs2 in
     let ok = s .pre .0 (l .i - 1) (omega arith) in (
@@ -67,7 +70,7 @@ loop-less-2 c = omega arith
 
 loop-again-2 : tie.Need-loop-again-2 Inv-loop μ-loop
 loop-again-2 c =
-    let s = c .before .before .before .before .before .before .before .before .before .before in
+    let s : tie.Start Inv-loop μ-loop = search needs in
     let l = c .before .before .before .loop in
     (omega arith, l .inv .1, λ d. omega (arith, l .inv .2 d), λ n h. down-skip (s .args .table .now) n (l .i) (omega arith) (omega arith) (l .scratch) _ (c .if1 .left) (l .inv .3 n h))
 
@@ -76,7 +79,7 @@ same-length c = c .before .loop .inv .1 ∙ c .before .before .before .before .c
 
 returns : tie.Need-returns Inv-loop μ-loop
 returns c =
-    let s = c .before .before .before .before .before .before .before .before in
+    let s : tie.Start Inv-loop μ-loop = search needs in
     let l = c .before .loop in
     let e : l .i ≡ 0 = omega arith in
     λ n h. sym (rw e refl) ∙ l .inv .3 n h ∙ rw (kids-refs (s .args .table .now) n (s .args .root) h, c .before .before .before .before .count-refs .ensures) refl

@@ -40,13 +40,13 @@ named-requires c κs =
 
 mul-scratch : tie.Need-mul-scratch Inv-loop μ-loop
 mul-scratch c =
-    let a = c .before .before .before .before .before .before .before .before in
+    let a : tie.Start Inv-loop μ-loop = search needs in
     let b = a .pre .0 .back (c .before .before .before .before .loop .j) (omega arith) in
     omega (arith, a .good)
 
 slice-read-scratch : tie.Need-slice-read-scratch Inv-loop μ-loop
 slice-read-scratch c =
-    let a = c .before .before .before .before .before .before .before .before .before in
+    let a : tie.Start Inv-loop μ-loop = search needs in
     let b = a .pre .0 .back (c .before .before .before .before .before .loop .j) (omega arith) in
     omega arith
 
@@ -55,7 +55,7 @@ add-scratch c = omega (arith, c .before .before .before .before .before .loop .i
 
 slice-write-scratch : tie.Need-slice-write-scratch Inv-loop μ-loop
 slice-write-scratch c =
-    let a = c .before .before .before .before .before .before .before .before .before in
+    let a : tie.Start Inv-loop μ-loop = search needs in
     let b = a .pre .0 .back (c .before .before .before .before .before .loop .j) (omega arith) in
     omega arith
 
@@ -67,7 +67,7 @@ loop-less c = omega arith
 
 loop-again : tie.Need-loop-again Inv-loop μ-loop
 loop-again c =
-    let s = c .before .before .before .before .before .before .before .before in
+    let s : tie.Start Inv-loop μ-loop = search needs in
     let l = c .before .before .before .before .loop in
     let r = c .before .before .field2 in
     let X = bump [] (s .args .scratch .now) (refsAt (s .args .table .now) (s .args .i)) in
@@ -92,7 +92,7 @@ same-length c = c .before .loop .inv .1
 
 returns : tie.Need-returns Inv-loop μ-loop
 returns c =
-    let s = c .before .before .before .before .before in
+    let s : tie.Start Inv-loop μ-loop = search needs in
     let l = c .before .loop in
     sym (rw (refs-end (s .args .table .now) (s .args .i) (l .j) (s .pre .0) (omega arith)) refl) ∙ l .inv .3
 

@@ -63,7 +63,8 @@ loop-less c = omega arith
 
 loop-again : tie.Need-loop-again Inv-loop μ-loop
 loop-again c =
-    let a = c .before .before .before .before .before .before .before .before .before .before .args in
+    let start : tie.Start Inv-loop μ-loop = search needs in
+    let a = start .args in
     let l = c .before .before .before .before .before .before .before .loop in
     let K = kidsAt (a .table .now) (a .n) in
     let x = c .before .before .before .before .entry in

@@ -13,15 +13,16 @@ zero-numbers-requires c κs = search needs
 
 count-parents-requires : tie.Need-count-parents-requires
 count-parents-requires c κs =
-    let s = c .before .before .before .before .before .before .before in
+    let s : tie.Start = search needs in
     let z = c .before .before .before .zero-numbers in
     (λ i h. s .pre .0 i (omega arith), (omega (arith, z .kept .0), (omega arith, λ d. rw (z .ensures) (small-zeros (length (s .args .scratch .now)) d))))
 
 list-cells-requires : tie.Need-list-cells-requires
 list-cells-requires c κs =
-    let s = c .before .before .before .before .before .before .before .before .before .before .before in
+    let at-zero-numbers : tie.After-zero-numbers = search needs in
+    let s : tie.Start = search needs in
     let a = s .args in
-    let z = c .before .before .before .before .before .before .before .zero-numbers in
+    let z = at-zero-numbers .zero-numbers in
     let p = c .before .before .before .count-parents in
     let m = length (a .scratch .now) in
     let h : a .root < a .n = omega arith in
@@ -30,10 +31,12 @@ list-cells-requires c κs =
 
 place-cells-requires : tie.Need-place-cells-requires
 place-cells-requires c κs =
-    let s = c .before .before .before .before .before .before .before .before .before .before .before .before .before .before .before in
+    let at-count-parents : tie.After-count-parents = search needs in
+    let at-zero-numbers : tie.After-zero-numbers = search needs in
+    let s : tie.Start = search needs in
     let a = s .args in
-    let z = c .before .before .before .before .before .before .before .before .before .before .before .zero-numbers in
-    let p = c .before .before .before .before .before .before .before .count-parents in
+    let z = at-zero-numbers .zero-numbers in
+    let p = at-count-parents .count-parents in
     let d = c .before .before .before .list-cells in
     let m = length (a .scratch .now) in
     let h : a .root < a .n = omega arith in
@@ -46,11 +49,14 @@ same-length c = search needs
 
 returns : tie.Need-returns
 returns c =
-    let s = c .before .before .before .before .before .before .before .before .before .before .before .before .before .before .before .before .before .before in
+    let at-list-cells : tie.After-list-cells = search needs in
+    let at-count-parents : tie.After-count-parents = search needs in
+    let at-zero-numbers : tie.After-zero-numbers = search needs in
+    let s : tie.Start = search needs in
     let a = s .args in
-    let z = c .before .before .before .before .before .before .before .before .before .before .before .before .before .before .zero-numbers in
-    let p = c .before .before .before .before .before .before .before .before .before .before .count-parents in
-    let d = c .before .before .before .before .before .before .list-cells in
+    let z = at-zero-numbers .zero-numbers in
+    let p = at-count-parents .count-parents in
+    let d = at-list-cells .list-cells in
     let q = c .before .before .place-cells in
     let m = length (a .scratch .now) in
     let h : a .root < a .n = omega arith in

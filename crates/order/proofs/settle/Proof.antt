@@ -43,7 +43,7 @@ named-requires c κs =
 
 wait-less-requires : tie.Need-wait-less-requires Inv-loop μ-loop
 wait-less-requires c κs =
-    let s = c .before .before .before .before .before .before .before .before .before in
+    let s : tie.Start Inv-loop μ-loop = search needs in
     let l = c .before .before .before .before .before .loop in
     let r = c .before .before .before .field2 in
     let b = s .pre .0 .back (l .j) (omega arith) in
@@ -59,7 +59,7 @@ loop-less c = omega arith
 
 loop-again : tie.Need-loop-again Inv-loop μ-loop
 loop-again c =
-    let s = c .before .before .before .before .before .before .before .before in
+    let s : tie.Start Inv-loop μ-loop = search needs in
     let l = c .before .before .before .before .loop in
     let r = c .before .before .field2 in
     let b = s .pre .0 .back (l .j) (omega arith) in
@@ -98,7 +98,7 @@ same-length c = c .before .loop .inv .3
 
 returns : tie.Need-returns Inv-loop μ-loop
 returns c =
-    let s = c .before .before .before .before .before in
+    let s : tie.Start Inv-loop μ-loop = search needs in
     let l = c .before .loop in
     record { from = l .inv .1; within = omega arith; settled = sym (l .inv .4) ∙ rw (refs-end (s .args .table .now) (s .args .i) (l .j) (s .pre .0) (omega arith)) refl; kept = l .inv .5 }
 

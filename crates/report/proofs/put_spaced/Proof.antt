@@ -16,7 +16,8 @@ same-length c = search needs
 
 returns : tie.Need-returns
 returns c =
-    let b = c .before .before .before .before .before .before .put-byte in
+    let at-put-byte : tie.After-put-byte = search needs in
+    let b = at-put-byte .put-byte in
     let d = c .before .before .put-decimal in
     (omega (arith, b .ensures .0, d .ensures .0), spaced-put _ _ _ _ _ _ (b .ensures .1) (b .ensures .0) (d .ensures .1))
 

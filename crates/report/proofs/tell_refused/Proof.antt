@@ -23,8 +23,10 @@ same-length c = search needs
 
 returns-2 : tie.Need-returns-2
 returns-2 c =
-    let r = c .before .before .before .before .before .before .before .args .r in
-    let e = c .before .before .before .before .before .refused-len .ensures .0 in
+    let at-refused-len : tie.After-refused-len = search needs in
+    let start : tie.Start = search needs in
+    let r = start .args .r in
+    let e = at-refused-len .refused-len .ensures .0 in
     let p = c .before .before .put-refused in
     told (refusedLine r) _ (omega (arith, e, c .before .before .before .before .if1 .left)) _ _ (omega (arith, p .ensures .0)) (p .ensures .1)
 

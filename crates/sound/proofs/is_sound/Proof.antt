@@ -45,24 +45,37 @@ all-zero-numbers-requires c κs = search needs
 
 returns-4 : tie.Need-returns-4
 returns-4 c =
-    sound-4 _ _ _ (sym (c .before .before .before .before .before .before .before .is-sized .ensures) ∙ not-false _
-    (c .before .before .before .before .before .before .if1 .left)) (c .before .before .before .before .before .if2 .left)
+    let else2 : tie.Else2 = search needs in
+    let else1 : tie.Else1 = search needs in
+    let at-is-sized : tie.After-is-sized = search needs in
+    let start : tie.Start = search needs in
+    sound-4 _ _ _ (sym (at-is-sized .is-sized .ensures) ∙ not-false _
+    (else1 .if1 .left)) (else2 .if2 .left)
     (sym (c .before .before .before .before .sound-cells .ensures) ∙ not-false _ (c .before .before .before .if3 .left))
-    (sym (zero-rest (c .before .before .before .before .before .before .before .before .before .before .args .count * 7)
-    (c .before .before .before .before .before .before .before .before .before .before .args .table .now) _ (c .before .all-zero-numbers .ensures)) ∙ not-true _
+    (sym (zero-rest (start .args .count * 7)
+    (start .args .table .now) _ (c .before .all-zero-numbers .ensures)) ∙ not-true _
     (c .if4 .taken))
 
 mul-from : tie.Need-mul-from
-mul-from c = let s = sized-is _ _ (sym (c .before .before .before .before .before .before .before .is-sized .ensures) ∙ not-false _
-    (c .before .before .before .before .before .before .if1 .left)) in omega arith
+mul-from c =
+    let else1 : tie.Else1 = search needs in
+    let at-is-sized : tie.After-is-sized = search needs in
+    let s = sized-is _ _ (sym (at-is-sized .is-sized .ensures) ∙ not-false _
+    (else1 .if1 .left)) in omega arith
 
 sub-all-zero-bytes : tie.Need-sub-all-zero-bytes
-sub-all-zero-bytes c = let s = sized-is _ _ (sym (c .before .before .before .before .before .before .before .is-sized .ensures) ∙ not-false _
-    (c .before .before .before .before .before .before .if1 .left)) in omega arith
+sub-all-zero-bytes c =
+    let else1 : tie.Else1 = search needs in
+    let at-is-sized : tie.After-is-sized = search needs in
+    let s = sized-is _ _ (sym (at-is-sized .is-sized .ensures) ∙ not-false _
+    (else1 .if1 .left)) in omega arith
 
 part-all-zero-bytes-start : tie.Need-part-all-zero-bytes-start
-part-all-zero-bytes-start c = let s = sized-is _ _ (sym (c .before .before .before .before .before .before .before .is-sized .ensures) ∙ not-false _
-    (c .before .before .before .before .before .before .if1 .left)) in omega arith
+part-all-zero-bytes-start c =
+    let else1 : tie.Else1 = search needs in
+    let at-is-sized : tie.After-is-sized = search needs in
+    let s = sized-is _ _ (sym (at-is-sized .is-sized .ensures) ∙ not-false _
+    (else1 .if1 .left)) in omega arith
 
 part-all-zero-bytes-end : tie.Need-part-all-zero-bytes-end
 part-all-zero-bytes-end c = search needs
@@ -72,14 +85,20 @@ all-zero-bytes-requires c κs = search needs
 
 returns-5 : tie.Need-returns-5
 returns-5 c =
-    sound-5 _ _ _ (sym (c .before .before .before .before .before .before .before .before .before .is-sized .ensures) ∙ not-false _
-    (c .before .before .before .before .before .before .before .before .if1 .left)) (c .before .before .before .before .before .before .before .if2 .left)
-    (sym (c .before .before .before .before .before .before .sound-cells .ensures) ∙ not-false _ (c .before .before .before .before .before .if3 .left))
-    (sym (zero-rest (c .before .before .before .before .before .before .before .before .before .before .before .before .args .count * 7)
-    (c .before .before .before .before .before .before .before .before .before .before .before .before .args .table .now) _
+    let else3 : tie.Else3 = search needs in
+    let at-sound-cells : tie.After-sound-cells = search needs in
+    let else2 : tie.Else2 = search needs in
+    let else1 : tie.Else1 = search needs in
+    let at-is-sized : tie.After-is-sized = search needs in
+    let start : tie.Start = search needs in
+    sound-5 _ _ _ (sym (at-is-sized .is-sized .ensures) ∙ not-false _
+    (else1 .if1 .left)) (else2 .if2 .left)
+    (sym (at-sound-cells .sound-cells .ensures) ∙ not-false _ (else3 .if3 .left))
+    (sym (zero-rest (start .args .count * 7)
+    (start .args .table .now) _
     (c .before .before .before .all-zero-numbers .ensures)) ∙ not-false _ (c .before .before .if4 .left))
-    _ (zero-rest (c .before .before .before .before .before .before .before .before .before .before .before .before .args .count * 128)
-    (c .before .before .before .before .before .before .before .before .before .before .before .before .args .bytes .now) _ (c .all-zero-bytes .ensures))
+    _ (zero-rest (start .args .count * 128)
+    (start .args .bytes .now) _ (c .all-zero-bytes .ensures))
 
 pub is-sound-spec : {M : Type 1} → statement M
 is-sound-spec =

@@ -21,15 +21,21 @@ field-requires-3 : tie.Need-field-requires-3
 field-requires-3 c κs = search needs
 
 returns-3 : tie.Need-returns-3
-returns-3 c = cell-3 _ _ _ _ (c .before .before .before .before .before .field .ensures) (c .before .before .before .before .if1 .left) _
+returns-3 c =
+    let at-field : tie.After-field = search needs in
+    cell-3 _ _ _ _ (at-field .field .ensures) (c .before .before .before .before .if1 .left) _
     (c .before .before .before .field2 .ensures) (c .before .before .if2 .left) _ (c .before .field3 .ensures) (c .if3 .taken)
 
 sound-refs-requires : tie.Need-sound-refs-requires
 sound-refs-requires c κs = search needs
 
 returns-4 : tie.Need-returns-4
-returns-4 c = cell-4 _ _ _ _ (c .before .before .before .before .before .before .before .field .ensures) (c .before .before .before .before .before .before .if1 .left) _
-    (c .before .before .before .before .before .field2 .ensures) (c .before .before .before .before .if2 .left) _ (c .before .before .before .field3 .ensures)
+returns-4 c =
+    let at-field2 : tie.After-field2 = search needs in
+    let else1 : tie.Else1 = search needs in
+    let at-field : tie.After-field = search needs in
+    cell-4 _ _ _ _ (at-field .field .ensures) (else1 .if1 .left) _
+    (at-field2 .field2 .ensures) (c .before .before .before .before .if2 .left) _ (c .before .before .before .field3 .ensures)
     (c .before .before .if3 .left) _ (c .before .sound-refs .ensures) (not-true _ (c .if4 .taken))
 
 mul-from : tie.Need-mul-from
@@ -51,9 +57,15 @@ tail-zero-requires : tie.Need-tail-zero-requires
 tail-zero-requires c κs = search needs
 
 returns-5 : tie.Need-returns-5
-returns-5 c = cell-5 _ _ _ _ (c .before .before .before .before .before .before .before .before .before .field .ensures)
-    (c .before .before .before .before .before .before .before .before .if1 .left) _ (c .before .before .before .before .before .before .before .field2 .ensures)
-    (c .before .before .before .before .before .before .if2 .left) _ (c .before .before .before .before .before .field3 .ensures)
+returns-5 c =
+    let at-field3 : tie.After-field3 = search needs in
+    let else2 : tie.Else2 = search needs in
+    let at-field2 : tie.After-field2 = search needs in
+    let else1 : tie.Else1 = search needs in
+    let at-field : tie.After-field = search needs in
+    cell-5 _ _ _ _ (at-field .field .ensures)
+    (else1 .if1 .left) _ (at-field2 .field2 .ensures)
+    (else2 .if2 .left) _ (at-field3 .field3 .ensures)
     (c .before .before .before .before .if3 .left) _ (c .before .before .before .sound-refs .ensures) (not-false _ (c .before .before .if4 .left)) _ (c .tail-zero .ensures)
 
 pub sound-cell-spec : {M : Type 1} → statement M

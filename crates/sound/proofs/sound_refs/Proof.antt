@@ -4,6 +4,7 @@ use mathlib.Core.Path.{_≡_, refl, sym, _∙_}
 use mathlib.Core.Bool.{true}
 use native.Mathlib.Omega.{arith}
 use borrow.Author.Tests.{not-true, not-false}
+use borrow.Author.Needs.{needs}
 use Rattle.scheme.specs.Memory.{allBelow, soundRef}
 use Rattle.sound.proofs.Laws.{all-more, all-not, ref-is}
 use Rattle.sound.proofs.sound_refs.Statement.{statement}
@@ -32,9 +33,12 @@ sound-ref-requires : tie.Need-sound-ref-requires Inv-loop μ-loop
 sound-ref-requires c κs = tt
 
 returns : tie.Need-returns Inv-loop μ-loop
-returns c = all-not _ 4 (c .before .before .before .before .loop .k) (omega arith) (ref-is (c .before .before .before .before .before .before .before .args .table .now)
-    (c .before .before .before .before .before .before .before .args .i) (c .before .before .before .before .loop .k) _ _ _
-    (c .before .before .before .before .before .field .ensures) (c .before .before .field2 .ensures) (c .before .sound-ref .ensures) ∙ not-true _ (c .if1 .taken))
+returns c =
+    let at-field : tie.After-field Inv-loop μ-loop = search needs in
+    let start : tie.Start Inv-loop μ-loop = search needs in
+    all-not _ 4 (c .before .before .before .before .loop .k) (omega arith) (ref-is (start .args .table .now)
+    (start .args .i) (c .before .before .before .before .loop .k) _ _ _
+    (at-field .field .ensures) (c .before .before .field2 .ensures) (c .before .sound-ref .ensures) ∙ not-true _ (c .if1 .taken))
 
 add-k : tie.Need-add-k Inv-loop μ-loop
 add-k c = omega arith
@@ -43,13 +47,15 @@ loop-less : tie.Need-loop-less Inv-loop μ-loop
 loop-less c = omega arith
 
 loop-again : tie.Need-loop-again Inv-loop μ-loop
-loop-again c = (
-  omega arith,
-  all-more _ (c .before .before .before .before .loop .k) (c .before .before .before .before .loop .inv .1)
-      (ref-is (c .before .before .before .before .before .before .before .args .table .now) (c .before .before .before .before .before .before .before .args .i)
-      (c .before .before .before .before .loop .k) _ _ _ (c .before .before .before .before .before .field .ensures) (c .before .before .field2 .ensures)
-      (c .before .sound-ref .ensures) ∙ not-false _ (c .if1 .left)),
-)
+loop-again c =
+    let at-field : tie.After-field Inv-loop μ-loop = search needs in
+    let start : tie.Start Inv-loop μ-loop = search needs in (
+      omega arith,
+      all-more _ (c .before .before .before .before .loop .k) (c .before .before .before .before .loop .inv .1)
+          (ref-is (start .args .table .now) (start .args .i)
+          (c .before .before .before .before .loop .k) _ _ _ (at-field .field .ensures) (c .before .before .field2 .ensures)
+          (c .before .sound-ref .ensures) ∙ not-false _ (c .if1 .left)),
+    )
 
 returns-2 : tie.Need-returns-2 Inv-loop μ-loop
 returns-2 c = let e : c .before .loop .k ≡ 4 = omega arith in sym (rw e at (c .before .loop .inv .1))

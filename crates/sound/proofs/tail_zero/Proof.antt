@@ -38,9 +38,11 @@ all-zero-bytes-requires : tie.Need-all-zero-bytes-requires
 all-zero-bytes-requires c κs = search needs
 
 returns-2 : tie.Need-returns-2
-returns-2 c = tail-rest _ _ _ _ _ (c .before .before .before .before .wide .ensures) (c .before .before .before .unused-in .ensures) (c .before .before .if1 .left)
-    (zero-rest ((c .before .before .before .before .before .before .before .args .bits + 7) / 8)
-    (c .before .before .before .before .before .before .before .args .block .now) _ (c .all-zero-bytes .ensures))
+returns-2 c =
+    let start : tie.Start = search needs in
+    tail-rest _ _ _ _ _ (c .before .before .before .before .wide .ensures) (c .before .before .before .unused-in .ensures) (c .before .before .if1 .left)
+    (zero-rest ((start .args .bits + 7) / 8)
+    (start .args .block .now) _ (c .all-zero-bytes .ensures))
 
 pub tail-zero-spec : {M : Type 1} → statement M
 tail-zero-spec =

@@ -24,8 +24,10 @@ enum-told c = search needs
 
 print-cell-requires : tie.Need-print-cell-requires
 print-cell-requires c κs =
-    let a = c .before .before .before .before .before .before .before .before .before .before .before .before .before .before .before .args in
-    let g = went _ _ _ _ _ _ _ (sym (c .before .before .before .before .before .before .before .before .before .decide .ensures) ∙ c .before .enum-told .given .1) in
+    let at-decide : tie.After-decide = search needs in
+    let start : tie.Start = search needs in
+    let a = start .args in
+    let g = went _ _ _ _ _ _ _ (sym (at-decide .decide .ensures) ∙ c .before .enum-told .given .1) in
     (λ i l. sound-cells _ _ _ (g .whole) i (omega (arith, g .held)), omega (arith, g .fits))
 
 same-length : tie.Need-same-length
@@ -33,8 +35,10 @@ same-length c = search needs
 
 returns : tie.Need-returns
 returns c =
-    let z = c .before .before .before .before .before .zero-numbers .ensures ∙ ap (λ k. replicate k 0) (c .before .before .before .before .before .before .before .before .before .decide .kept .1 .1 .1 .1 .1 .0) in
-    refused _ _ _ _ _ _ _ _ z _ (sym (c .before .before .before .before .before .before .before .before .before .decide .ensures) ∙ c .before .v .given .1)
+    let at-zero-numbers : tie.After-zero-numbers = search needs in
+    let at-decide : tie.After-decide = search needs in
+    let z = at-zero-numbers .zero-numbers .ensures ∙ ap (λ k. replicate k 0) (at-decide .decide .kept .1 .1 .1 .1 .1 .0) in
+    refused _ _ _ _ _ _ _ _ z _ (sym (at-decide .decide .ensures) ∙ c .before .v .given .1)
 
 same-length-2 : tie.Need-same-length-2
 same-length-2 c = search needs
@@ -44,9 +48,12 @@ same-length-3 c = search needs
 
 returns-2 : tie.Need-returns-2
 returns-2 c =
-    let a = c .before .before .before .before .before .before .before .before .before .before .before .before .before .before .before .before .before .before .args in
-    let z = c .before .before .before .before .before .before .before .before .zero-numbers .ensures ∙ ap (λ k. replicate k 0) (c .before .before .before .before .before .before .before .before .before .before .before .before .decide .kept .1 .1 .1 .1 .1 .0) in
-    let g = went _ _ _ _ _ _ _ (sym (c .before .before .before .before .before .before .before .before .before .before .before .before .decide .ensures) ∙ c .before .before .before .before .enum-told .given .1) in
+    let at-zero-numbers : tie.After-zero-numbers = search needs in
+    let at-decide : tie.After-decide = search needs in
+    let start : tie.Start = search needs in
+    let a = start .args in
+    let z = at-zero-numbers .zero-numbers .ensures ∙ ap (λ k. replicate k 0) (at-decide .decide .kept .1 .1 .1 .1 .1 .0) in
+    let g = went _ _ _ _ _ _ _ (sym (at-decide .decide .ensures) ∙ c .before .before .before .before .enum-told .given .1) in
     let p = c .before .before .print-cell in
     printed _ _ _ _ _ _ _ _ z _ _ _ g (omega (arith, p .ensures .0)) (p .ensures .1 .0) (p .ensures .1 .1 ∙ puts-start (a .out .now) (textAt (a .table .now) (a .bytes .now) (a .n)) (g .fits))
 

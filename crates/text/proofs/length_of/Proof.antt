@@ -27,7 +27,8 @@ same-length c = search needs
 
 returns : tie.Need-returns
 returns c =
-    let a = c .before .before .before .before .before .before .before .args in
+    let start : tie.Start = search needs in
+    let a = start .args in
     λ d h. cut-last lengthStep (a .cap) (caps-length (a .cap)) (a .table .now) d (a .n) (c .before .before .before .all-lengths .last .1 .1 .1 .0) (drop (a .n + 1) (a .scratch .now)) (c .before .before .before .all-lengths .ensures d h) ∙ ap (min (a .cap)) (length-eq (cellAt (a .table .now) d) (a .n))
 
 pub length-of-spec : {M : Type 1} → statement M

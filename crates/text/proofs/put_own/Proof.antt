@@ -14,7 +14,7 @@ field-requires c κs = search needs
 
 put-decimal-requires : tie.Need-put-decimal-requires
 put-decimal-requires c κs =
-    let s = c .before .before .before .before .before in
+    let s : tie.Start = search needs in
     let f = c .before .field in
     omega (arith, own-room (s .args .table .now) (s .args .bytes .now) (s .args .n) (f .result) (f .ensures) (omega arith), s .pre .1)
 
@@ -23,8 +23,9 @@ slice-aggregate-put-bytes c = search needs
 
 put-bytes-requires : tie.Need-put-bytes-requires
 put-bytes-requires c κs =
-    let s = c .before .before .before .before .before .before .before .before .before .before in
-    let f = c .before .before .before .before .before .before .field in
+    let at-field : tie.After-field = search needs in
+    let s : tie.Start = search needs in
+    let f = at-field .field in
     let d = c .before .before .before .before .put-decimal in
     omega (arith, own-room (s .args .table .now) (s .args .bytes .now) (s .args .n) (f .result) (f .ensures) (omega arith), s .pre .1, d .ensures .0, d .kept .0)
 
@@ -48,19 +49,24 @@ part-put-hex-end c = search needs
 
 put-hex-requires : tie.Need-put-hex-requires
 put-hex-requires c κs =
-    let s = c .before .before .before .before .before .before .before .before .before .before .before .before .before .before .before in
-    let f = c .before .before .before .before .before .before .before .before .before .before .before .field in
-    let d = c .before .before .before .before .before .before .before .before .before .put-decimal in
+    let at-put-decimal : tie.After-put-decimal = search needs in
+    let at-field : tie.After-field = search needs in
+    let s : tie.Start = search needs in
+    let f = at-field .field in
+    let d = at-put-decimal .put-decimal in
     let o = c .before .before .before .before .put-bytes in
     let q = ap (λ x. length (hex x)) (part-bytes (s .args .bytes .now) (s .args .n) (f .result)) in
     omega (arith, own-room (s .args .table .now) (s .args .bytes .now) (s .args .n) (f .result) (f .ensures) (omega arith), s .pre .1, d .ensures .0, d .kept .0, o .ensures .0, o .kept .1 .0, q)
 
 put-byte-requires : tie.Need-put-byte-requires
 put-byte-requires c κs =
-    let s = c .before .before .before .before .before .before .before .before .before .before .before .before .before .before .before .before .before .before .before in
-    let f = c .before .before .before .before .before .before .before .before .before .before .before .before .before .before .before .field in
-    let d = c .before .before .before .before .before .before .before .before .before .before .before .before .before .put-decimal in
-    let o = c .before .before .before .before .before .before .before .before .put-bytes in
+    let at-put-bytes : tie.After-put-bytes = search needs in
+    let at-put-decimal : tie.After-put-decimal = search needs in
+    let at-field : tie.After-field = search needs in
+    let s : tie.Start = search needs in
+    let f = at-field .field in
+    let d = at-put-decimal .put-decimal in
+    let o = at-put-bytes .put-bytes in
     let h = c .before .before .before .put-hex in
     let q = ap (λ x. length (hex x)) (part-bytes (s .args .bytes .now) (s .args .n) (f .result)) in
     omega (arith, own-room (s .args .table .now) (s .args .bytes .now) (s .args .n) (f .result) (f .ensures) (omega arith), s .pre .1, d .ensures .0, d .kept .0, o .ensures .0, o .kept .1 .0, h .ensures .0, h .kept .1 .0, q)
@@ -70,12 +76,16 @@ same-length c = search needs
 
 returns : tie.Need-returns
 returns c =
-    let s = c .before .before .before .before .before .before .before .before .before .before .before .before .before .before .before .before .before .before .before .before .before .before in
+    let at-put-hex : tie.After-put-hex = search needs in
+    let at-put-bytes : tie.After-put-bytes = search needs in
+    let at-put-decimal : tie.After-put-decimal = search needs in
+    let at-field : tie.After-field = search needs in
+    let s : tie.Start = search needs in
     let a = s .args in
-    let f = c .before .before .before .before .before .before .before .before .before .before .before .before .before .before .before .before .before .before .field in
-    let d = c .before .before .before .before .before .before .before .before .before .before .before .before .before .before .before .before .put-decimal in
-    let o = c .before .before .before .before .before .before .before .before .before .before .before .put-bytes in
-    let h = c .before .before .before .before .before .before .put-hex in
+    let f = at-field .field in
+    let d = at-put-decimal .put-decimal in
+    let o = at-put-bytes .put-bytes in
+    let h = at-put-hex .put-hex in
     let e = c .before .before .put-byte in
     let p = part-bytes (a .bytes .now) (a .n) (f .result) in
     let q = ap (λ x. length (hex x)) p in

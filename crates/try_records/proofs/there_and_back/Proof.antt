@@ -19,10 +19,13 @@ same-length c = search needs
 
 returns : tie.Need-returns
 returns c =
+    let at-export : tie.After-export = search needs in
+    let at-blanks : tie.After-blanks = search needs in
+    let start : tie.Start = search needs in
     let i = c .before .before .import in
-    let e = c .before .before .before .before .before .export in
-    let b = c .before .before .before .before .before .before .blanks in
-    let a = c .before .before .before .before .before .before .before .before .before .args in
+    let e = at-export .export in
+    let b = at-blanks .blanks in
+    let a = start .args in
     there-and-back (now (a .flat)) (now (a .again)) (b .result) (a .n) (e .result .count) (i .result) (e .result .table) (i .last .1 .1 .0) (e .ensures) (i .ensures)
 
 pub there-and-back-spec : {M : Type 1} → statement M

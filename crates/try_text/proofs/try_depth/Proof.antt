@@ -22,8 +22,9 @@ array-borrow-prefix-scratch c = search needs
 
 slice-aggregate-max-depth : tie.Need-slice-aggregate-max-depth
 slice-aggregate-max-depth c =
-    let h : c .before .before .before .before .before .before .args .entries ≤ 300 = omega arith in
-    sym (length-take-le (c .before .before .before .before .before .before .args .entries) (replicate 300 0) h)
+    let start : tie.Start = search needs in
+    let h : start .args .entries ≤ 300 = omega arith in
+    sym (length-take-le (start .args .entries) (replicate 300 0) h)
 
 max-depth-requires : tie.Need-max-depth-requires
 max-depth-requires c κs = search needs

@@ -25,16 +25,18 @@ array-borrow-prefix-scratch c = search needs
 
 slice-aggregate-debug-text : tie.Need-slice-aggregate-debug-text
 slice-aggregate-debug-text c =
-    let h : c .before .before .before .before .before .before .before .args .entries ≤ 300 = omega arith in
-    sym (length-take-le (c .before .before .before .before .before .before .before .args .entries) (replicate 300 0) h)
+    let start : tie.Start = search needs in
+    let h : start .args .entries ≤ 300 = omega arith in
+    sym (length-take-le (start .args .entries) (replicate 300 0) h)
 
 array-borrow-prefix-out : tie.Need-array-borrow-prefix-out
 array-borrow-prefix-out c = search needs
 
 slice-aggregate-debug-text-2 : tie.Need-slice-aggregate-debug-text-2
 slice-aggregate-debug-text-2 c =
-    let h : c .before .before .before .before .before .before .before .before .args .room ≤ 2821 = omega arith in
-    sym (length-take-le (c .before .before .before .before .before .before .before .before .args .room) (replicate 2821 0) h)
+    let start : tie.Start = search needs in
+    let h : start .args .room ≤ 2821 = omega arith in
+    sym (length-take-le (start .args .room) (replicate 2821 0) h)
 
 debug-text-requires : tie.Need-debug-text-requires
 debug-text-requires c κs = search needs

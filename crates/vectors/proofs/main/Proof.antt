@@ -45,9 +45,10 @@ loop-less c = omega arith
 
 loop-again : tie.Need-loop-again Inv-loop μ-loop
 loop-again c =
+    let at-tell-next : tie.After-tell-next Inv-loop μ-loop = search needs in
     let h : tie.At-loop Inv-loop μ-loop = search needs in
     let i = h .loop .inv in
-    let k = c .before .before .before .before .before .before .before .tell-next .kept in
+    let k = at-tell-next .tell-next .kept in
     (k .0 ∙ i .0, k .1 .0 ∙ i .1, k .1 .1 .0 ∙ i .2, k .1 .1 .1 .0 ∙ i .3, k .1 .1 .1 .1 .0 ∙ i .4, k .1 .1 .1 .1 .1 .0 ∙ i .5)
 
 returns : tie.Need-returns Inv-loop μ-loop

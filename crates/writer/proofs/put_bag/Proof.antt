@@ -29,9 +29,10 @@ same-length c = search needs
 
 returns : tie.Need-returns
 returns c =
+    let at-put-body : tie.After-put-body = search needs in
     let s : tie.Start = search needs in
     let a = s .args in
-    let b = c .before .before .before .before .before .before .put-body in
+    let b = at-put-body .put-body in
     let body = bodyOf (a .has-idx) (a .has-crc32c) (a .table .now) (a .bytes .now) (a .scratch .now) (a .n) (a .m) (a .size) (a .off) in
     let h : length body ≤ length (a .out .now) = omega (arith, sealed-length (a .has-crc32c) body, s .pre .1 .1 .1 .1) in
     c .before .before .put-checksum .ensures ∙ sealed-is (a .has-crc32c) (a .out .now) body _ (b .result) (b .ensures .0) h (b .ensures .1)

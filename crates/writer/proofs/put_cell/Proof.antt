@@ -88,7 +88,9 @@ put-byte-requires : tie.Need-put-byte-requires
 put-byte-requires c κs = let s : tie.Start = search needs in next-room _ _ (_ ∷ []) _ (left₀ s)
 
 bits-descriptor-requires : tie.Need-bits-descriptor-requires
-bits-descriptor-requires c κs = let s : tie.Start = search needs in omega (arith, s .pre .0 .ok .bits, c .before .before .before .before .before .before .before .field2 .ensures)
+bits-descriptor-requires c κs =
+    let at-field2 : tie.After-field2 = search needs in
+    let s : tie.Start = search needs in omega (arith, s .pre .0 .ok .bits, at-field2 .field2 .ensures)
 
 put-byte-requires-2 : tie.Need-put-byte-requires-2
 put-byte-requires-2 c κs = next-room _ _ (_ ∷ []) _ (left₁ (c .before .before .before .before))

@@ -36,9 +36,10 @@ same-length c = search needs
 
 returns : tie.Need-returns
 returns c =
+    let then1 : tie.Then1 = search needs in
     let s : tie.Start = search needs in
     let a = s .args in
-    let e = sym (checksum-yes (a .has-crc32c) (a .out .now) (a .at) (c .before .before .before .before .before .before .if1 .taken)) in
+    let e = sym (checksum-yes (a .has-crc32c) (a .out .now) (a .at) (then1 .if1 .taken)) in
     c .before .before .put-le .ensures .1 ∙ ap (puts (a .out .now) (a .at)) (ap (le 4) (c .before .before .before .before .crc32c .ensures) ∙ e)
 
 returns-2 : tie.Need-returns-2

@@ -59,11 +59,13 @@ loop-less c = omega arith
 
 loop-again : tie.Need-loop-again Inv-loop μ-loop
 loop-again c =
+    let at-cell-size : tie.After-cell-size Inv-loop μ-loop = search needs in
+    let at-entry : tie.After-entry Inv-loop μ-loop = search needs in
     let s : tie.Start Inv-loop μ-loop = search needs in
     let a = s .args in
     let l = c .before .before .before .before .before .before .before .before .loop in
-    let x = c .before .before .before .before .before .before .entry in
-    let z = c .before .before .before .before .before .cell-size in
+    let x = at-entry .entry in
+    let z = at-cell-size .cell-size in
     let i = c .before .before .before .index-entry in
     let r = c .before .before .put-be in
     let N = rw (index-next (a .scratch .now) (a .n) (a .m) (l .p) (x .result) (omega arith) (omega arith) (x .ensures) (a .table .now) (a .size) (a .off) (l .start), ← (z .ensures .0)) at (l .inv .2) in

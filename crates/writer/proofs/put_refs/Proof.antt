@@ -62,11 +62,12 @@ loop-less c = omega arith
 
 loop-again : tie.Need-loop-again Inv-loop μ-loop
 loop-again c =
+    let at-field2 : tie.After-field2 Inv-loop μ-loop = search needs in
     let s : tie.Start Inv-loop μ-loop = search needs in
     let a = s .args in
     let l = c .before .before .before .before .before .before .before .loop in
     let r = c .before .before .put-be in
-    let N = rw (refs-next (a .table .now) (a .scratch .now) (a .n) (a .size) (a .x) (l .j) (c .before .before .before .before .before .field2 .result) (s .pre .0) (omega arith) (c .before .before .before .before .before .field2 .ensures), ← (c .before .before .before .before .entry .ensures)) at (l .inv .1) in
+    let N = rw (refs-next (a .table .now) (a .scratch .now) (a .n) (a .size) (a .x) (l .j) (at-field2 .field2 .result) (s .pre .0) (omega arith) (at-field2 .field2 .ensures), ← (c .before .before .before .before .entry .ensures)) at (l .inv .1) in
     (omega arith, next-be (l .out) (l .to) (a .size) (c .before .before .before .before .entry .result) _ N (r .last .0) (r .result) (r .ensures .1) (r .ensures .0))
 
 same-length : tie.Need-same-length Inv-loop μ-loop

@@ -19,9 +19,10 @@ same-length c = search needs
 
 returns : tie.Need-returns
 returns c =
+    let at-is-sound : tie.After-is-sound = search needs in
     let s : tie.Start = search needs in
     let a = s .args in
-    let u = sym (c .before .before .before .before .before .is-sound .ensures) ∙ not-true _ (c .before .before .before .before .if1 .taken) in
+    let u = sym (at-is-sound .is-sound .ensures) ∙ not-true _ (c .before .before .before .before .if1 .taken) in
     whole (refused-store (a .args .«has_idx») (a .args .«has_crc32c») (a .count) (a .table .now) (a .bytes .now) (a .n) (a .scratch .now) (a .out .now) u) (c .before .before .zero-numbers .ensures)
 
 write-requires : tie.Need-write-requires
@@ -38,7 +39,8 @@ same-length-3 c = search needs
 
 returns-2 : tie.Need-returns-2
 returns-2 c =
-    let w = c .before .before .before .before .before .before .before .before .write in
+    let at-write : tie.After-write = search needs in
+    let w = at-write .write in
     whole (w .ensures) (c .before .before .zero-numbers2 .ensures ∙ ap (λ (k : ℕ). replicate k 0) (w .kept .1 .1 .1 .1 .1 .1 .0))
 
 pub serialize-spec : {M : Type 1} → statement M

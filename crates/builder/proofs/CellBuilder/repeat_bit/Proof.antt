@@ -34,13 +34,17 @@ fill-bits-requires c κs =
 
 with-bits-requires : tie.Need-with-bits-requires
 with-bits-requires c κs =
-    leb-true _ _ (sym (c .before .before .before .before .before .bits-fit .ensures) ∙ not-false _ (c .before .before .before .before .if1 .left))
+    let at-bits-fit : tie.After-bits-fit = search needs in
+    leb-true _ _ (sym (at-bits-fit .bits-fit .ensures) ∙ not-false _ (c .before .before .before .before .if1 .left))
 
 returns-2 : tie.Need-returns-2
 returns-2 c =
-    let s = c .before .before .before .before .before .before .before .args in
+    let else1 : tie.Else1 = search needs in
+    let at-bits-fit : tie.After-bits-fit = search needs in
+    let start : tie.Start = search needs in
+    let s = start .args in
     let fit : leb (s .self .len + s .n) 1023 ≡ true =
-    sym (c .before .before .before .before .before .before .bits-fit .ensures) ∙ not-false _ (c .before .before .before .before .before .if1 .left) in
+    sym (at-bits-fit .bits-fit .ensures) ∙ not-false _ (else1 .if1 .left) in
     repeats-bytes (builderOf (s .self)) (s .n) (s .bit) (c .before .before .fill-bits .last .0) (c .with-bits .result) fit
     (c .before .before .fill-bits .ensures) (c .with-bits .ensures)
 

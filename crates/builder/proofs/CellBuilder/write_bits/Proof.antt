@@ -31,7 +31,8 @@ refused-requires-2 c κs = search needs
 
 returns-2 : tie.Need-returns-2
 returns-2 c =
-    let s = c .before .before .before .before .before .before .args in
+    let start : tie.Start = search needs in
+    let s = start .args in
     let past : leb (s .self .len + s .n) 1023 ≡ false = sym (c .before .before .bits-fit .ensures) ∙ not-true _ (c .before .if2 .taken) in
     rw (passes (builderOf (s .self)) (s .n) (s .from .now) (omega arith) past) (c .refused2 .ensures)
 
@@ -40,19 +41,24 @@ slice-aggregate-copy-bits c = search needs
 
 copy-bits-requires : tie.Need-copy-bits-requires
 copy-bits-requires c κs =
+    let start : tie.Start = search needs in
     let fit = sym (c .before .before .before .bits-fit .ensures) ∙ not-false _ (c .before .before .if2 .left) in
-    let whole : length (c .before .before .before .before .before .before .before .args .self .bytes) ≡ 128 = search needs in
+    let whole : length (start .args .self .bytes) ≡ 128 = search needs in
     (whole, (leb-true _ _ fit, omega arith))
 
 with-bits-requires : tie.Need-with-bits-requires
 with-bits-requires c κs =
-    leb-true _ _ (sym (c .before .before .before .before .before .bits-fit .ensures) ∙ not-false _ (c .before .before .before .before .if2 .left))
+    let at-bits-fit : tie.After-bits-fit = search needs in
+    leb-true _ _ (sym (at-bits-fit .bits-fit .ensures) ∙ not-false _ (c .before .before .before .before .if2 .left))
 
 returns-3 : tie.Need-returns-3
 returns-3 c =
-    let s = c .before .before .before .before .before .before .before .before .before .before .args in
+    let else2 : tie.Else2 = search needs in
+    let at-bits-fit : tie.After-bits-fit = search needs in
+    let start : tie.Start = search needs in
+    let s = start .args in
     let fit : leb (s .self .len + s .n) 1023 ≡ true =
-    sym (c .before .before .before .before .before .before .bits-fit .ensures) ∙ not-false _ (c .before .before .before .before .before .if2 .left) in
+    sym (at-bits-fit .bits-fit .ensures) ∙ not-false _ (else2 .if2 .left) in
     appends-bytes (builderOf (s .self)) (s .n) (s .from .now) (c .before .before .copy-bits .last .0) (c .with-bits .result) (omega arith) fit
     (c .before .before .copy-bits .ensures) (c .with-bits .ensures)
 
