@@ -17,6 +17,7 @@ use Rattle.scheme.specs.Cells.{Cell, at}
 use Rattle.laws.specs.Unique.{Low}
 use Rattle.laws.specs.Kahn.{Graph, Good, Later, kahn}
 
+-- what the root reaches: itself, and the references of what it reaches
 pub data Reach (kids : ℕ → List ℕ) (root : ℕ) : ℕ → Type 0 where
   itself : {c : ℕ} → c ≡ root → Reach kids root c
   via : {p c : ℕ} → Reach kids root p → Mem c (kids p) → Reach kids root c
