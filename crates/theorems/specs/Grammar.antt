@@ -1,4 +1,5 @@
 -- The bytes of a bag as the TL-B scheme has them, apart from any reading: what a header and cells are written as, and when they may be.
+-- In three places, marked 'looser', `Admissible` asks less than the scheme, as the Rust does: the flag bits, a bag with no root, the total.
 use mathlib.Core.Path.{_≡_}
 use Prim.Native.Nat.{ℕ, _+_, _-_, _*_, _/_, _%_, _^_, _≤_, _<_}
 use mathlib.Core.Bool.{Bool, true, cond}
@@ -100,11 +101,14 @@ bagOf h cs = record { used = length (serialized h cs); cells = map cellOf cs; ro
 pub record Admissible (scratch room : ℕ) (h : Head) (cs : List RawCell) : Type 0 where
   pub size : h .size ≤ 4
   pub off : h .off ≤ 8
+  -- looser: the scheme has flags = 0
   pub flags : h .flags ≤ 3
   pub count : length cs < 256 ^ h .size
+  -- looser: in the scheme the total is the length of the cells
   pub total : h .total < 256 ^ h .off
   pub index : length (h .index) ≡ cond (h .has-idx) (length cs) 0
   pub entries : (x : ℕ) → Mem x (h .index) → x < 256 ^ h .off
+  -- looser: the scheme has roots >= 1
   pub counts : length (h .roots) + h .absent ≤ length cs
   pub cells : length cs ≤ maxCells
   pub scratch-lent : readScratch (length cs) ≤ scratch

@@ -18,7 +18,7 @@ use Rattle.scheme.specs.Builder.{Builder}
 use Rattle.scheme.specs.Add.{Added, add}
 use Rattle.scheme.specs.Bag.{Got, read}
 use Rattle.scheme.specs.Order.{orderOf}
-use Rattle.scheme.specs.Write.{serialized}
+use Rattle.scheme.specs.Write.{write, serialized}
 use Rattle.scheme.specs.Calls.{StoreOut, ReadOut, WriteOut, onto, zeroed, clearOut, clearing, addOut, adding, readOut, reading, lent, writeOut, writing}
 use Rattle.laws.specs.Accept.{Small, then-use, check-inv}
 use Rattle.laws.specs.Add.{Typed}
@@ -33,6 +33,7 @@ use Rattle.laws.specs.Tests.{and-left}
 use Rattle.laws.specs.Lay.{sound-lay}
 use Rattle.laws.specs.Records.{sized-is}
 use Rattle.theorems.specs.MeaningLaws.{fit-wf}
+use Rattle.theorems.specs.Writing.{Writes, writes}
 
 -- a store's memory
 pub record Memory : Type 0 where
@@ -95,7 +96,11 @@ pub record Demand3 (m : Memory) : Type 0 where
   pub same : (i j : ℕ) → i < m .count → j < m .count → (i ≡ j) ↔ (tree (cells m) i ≡ tree (cells m) j)
   -- a held cell's bag lists each cell reached from it once, that cell first, each reference to a later place
   pub lists : (root : ℕ) → root < m .count → Listing (cells m) root (orderOf (cells m) root)
-  -- and, if the writer does not refuse, reading it back into the same store answers that number as the only root and adds no cell
+  -- if the writer does not refuse, what it wrote is the bag of that listing (Writing)
+  pub bag : (root : ℕ) (has-idx has-crc : Bool) (scratch out : List ℕ) (len : ℕ)
+      → (writing has-idx has-crc (m .count) (m .table) (m .bytes) root scratch out) .answer ≡ ok len
+      → Writes has-idx has-crc (cells m) root (take len ((writing has-idx has-crc (m .count) (m .table) (m .bytes) root scratch out) .out))
+  -- and reading it back into the same store answers that number as the only root and adds no cell
   pub back : (root : ℕ) (has-idx has-crc : Bool) (scratch out : List ℕ) (len : ℕ)
       → (writing has-idx has-crc (m .count) (m .table) (m .bytes) root scratch out) .answer ≡ ok len
       → (whole : Bool) (scratch′ roots : List ℕ) → 2 * length (orderOf (cells m) root) ≤ length scratch′ → 1 ≤ length roots
@@ -210,6 +215,13 @@ module _ (cap : ℕ) (few : cap ≤ 4096) (s : List Cell) (K : Kept cap s) where
             let z : length xs ≡ len = cc in
             (xs, rw (n .0) e₁, n .1, sym z, rw q)
 
+    bag-here : (len : ℕ) → W .answer ≡ ok len → Writes idx crc s root (take len (W .out))
+    bag-here len e =
+        let w = wrote len e in
+        let q : take len (W .out) ≡ write idx crc s root = front (w .0) out (W .out) len (w .4) (w .3) ∙ write-inv (length out) idx crc s root (w .0) (w .1) in
+        let n = K .room in
+        rw q (writes idx crc s root (K .sound .low) (K .fit) (omega arith) (w .2))
+
     module _ (whole : Bool) (scratch′ roots : List ℕ) (hx : 2 * length (orderOf s root) ≤ length scratch′) (hy : 1 ≤ length roots) where
       abbrev again : List ℕ → ReadOut
       again xs = reading whole (length s) T D scratch′ roots xs
@@ -235,6 +247,7 @@ module _ (cap : ℕ) (few : cap ≤ 4096) (s : List Cell) (K : Kept cap s) where
     lower = λ i r h m. K .sound .low i h r (subst (λ (l : List Cell). Mem r ((at l i) .refs)) cells-here m);
     same = λ i j h g. rw cells-here (λ e. ap (tree s) e, unique s (K .sound) i j h g);
     lists = λ root h. rw cells-here (listing s (K .sound .low) root h);
+    bag = λ root idx crc scratch out len e. rw cells-here (bag-here root idx crc scratch out len e);
     back = λ root idx crc scratch out len e whole scratch′ roots hx hy. rw cells-here (back-here root idx crc scratch out whole scratch′ roots (rw cells-here at hx) hy len e);
   }
 

@@ -161,6 +161,14 @@ bare (c ∷ d ∷ cs) = c ∷ bare (d ∷ cs)
 abbrev pub dropsReferences : Reader
 dropsReferences = altered λ s g. record { counts = g .counts; names = g .names; store = bare (g .store) }
 
+-- wrong: the bytes used are made up: one more than were read
+abbrev pub usedMadeUp : Reader
+usedMadeUp = altered λ s g. record {
+  counts = record { used = suc (g .counts .used); cells = g .counts .cells; roots = g .counts .roots; added = g .counts .added };
+  names = g .names;
+  store = g .store;
+}
+
 -- wrong: the count of the cells added is made up
 abbrev pub countMadeUp : Reader
 countMadeUp = altered λ s g. record {
@@ -232,6 +240,14 @@ others-empty-shut-out H = let t = (sample-means _ H) .root 0 (omega arith) in no
 
 pub drops-references-shut-out : ¬ ReadMeans dropsReferences
 drops-references-shut-out H = let t = (sample-means _ H) .root 0 (omega arith) in no cc
+
+-- the bytes used are those of the sample's fields, for the definition and for a reader that is to mean the same
+pub used-made-up-shut-out : ¬ ReadMeans usedMadeUp
+used-made-up-shut-out H =
+    let e = (sample-means _ H) .used in
+    let M = read-means true 6 1 2 [] sample sampleGot (λ i h. absurd (not-suc-le-zero h)) (are-small sample refl) sample-read in
+    let f = M .2 .used in
+    omega arith
 
 pub count-made-up-shut-out : ¬ ReadMeans countMadeUp
 count-made-up-shut-out H = let e = (sample-means _ H) .added in omega arith
