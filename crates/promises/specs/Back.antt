@@ -1,4 +1,4 @@
--- Demand 3, of what is written and read back: stated from what `serialize` and the readers promise, and from what `tapunerow_write` and `tapunerow_read` do.
+-- Demand 3 (docs/DEMANDS.md), of what is written and read back: from what `serialize` and the readers promise, and `tapunerow_write` and `tapunerow_read`.
 -- Assumes nothing.
 use mathlib.Core.Path.{_≡_, refl, sym, ap, _∙_}
 use Prim.Native.Nat.{ℕ, _*_, _≤_}

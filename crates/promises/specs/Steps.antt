@@ -1,5 +1,5 @@
--- Demand 3, of the code: whatever public calls follow one another, what their functions promise makes each a step of a history, and so demand 3 holds of
--- the memory that they leave. A call that may change a store has one line in `Step` and one in `leads`. Assumes nothing.
+-- Demand 3 (docs/DEMANDS.md), of the code: whatever public calls follow one another, what their functions promise makes each a step of a history, and so
+-- demand 3 holds of the memory that they leave. A call that may change a store has one line in `Step` and one in `leads`. Assumes nothing.
 use mathlib.Core.Path.{_≡_, refl, sym, subst}
 use Prim.Native.Nat.{ℕ}
 use native.Mathlib.Omega.{arith}

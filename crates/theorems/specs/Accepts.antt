@@ -1,4 +1,4 @@
--- Demand 2, the grammar: a bag is accepted exactly when its bytes are a text of the scheme.
+-- Demand 2 (docs/DEMANDS.md), the grammar: a bag is accepted exactly when its bytes are a text of the scheme.
 -- Assumes nothing.
 use mathlib.Core.Path.{_≡_}
 use mathlib.Core.Logic.{_↔_}

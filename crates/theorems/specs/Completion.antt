@@ -65,7 +65,7 @@ some-bytes (x ∷ xs) h = omega arith
 abbrev pub bitsIn : Cell → List ℕ
 bitsIn c = firstBits (c .len) (c .bytes)
 
--- Demand 2: the bits of a cell whose data bytes are not completed are all bits of these.
+-- Demand 2 (docs/DEMANDS.md): the bits of a cell whose data bytes are not completed are all bits of these.
 pub full-bits : (c : RawCell) → c .completed ≡ false → bitsOf (c .content) ≡ bitsIn (cellOf c)
 unfolding cellOf
 full-bits c e = rw e (sym (take-all (8 * length (c .content)) (bitsOf (c .content)) (omega (arith, bits-length (c .content)))))

@@ -1,4 +1,4 @@
--- Cut replies: no front of a bag is taken for a bag. It is the reason for the order.
+-- Cut replies: no front of a bag is taken for a bag. It is what the library is for.
 -- Assumes nothing.
 use mathlib.Core.Path.{_≡_, refl, sym}
 use Prim.Native.Nat.{ℕ, _≤_, _<_}
@@ -19,7 +19,7 @@ use Rattle.laws.specs.Accept.{then-use}
 use Rattle.theorems.specs.Places.{total, cutPlace, NotWhole, bagFields}
 use Rattle.theorems.specs.CutLaws.{bag-read, fields-end, bag-cut, not-whole}
 
--- Demand 2: the bytes used are those of the bag's fields, and lie inside the reply; in the whole reading they are all of it.
+-- Demand 2 (docs/DEMANDS.md): the bytes used are those of the bag's fields, and lie inside the reply; in the whole reading they are all of it.
 pub used-fields : (whole : Bool) (scratch room : ℕ) (b : List ℕ) (g : Bag) → bag whole scratch room b ≡ ok g → g .used ≡ total (bagFields b)
 used-fields whole scratch room b g e = sym (fields-end (bag-read whole scratch room b g e))
 

@@ -1,4 +1,4 @@
--- Demand 3, over a store's memory: whatever clears, adds and reads follow one another after a clearing, refused ones among them.
+-- Demand 3 (docs/DEMANDS.md), over a store's memory: whatever clears, adds and reads follow one another after a clearing, refused ones among them.
 -- Assumes nothing.
 use mathlib.Core.Path.{_≡_, refl, sym, ap, _∙_, subst}
 use mathlib.Core.Logic.{_↔_}

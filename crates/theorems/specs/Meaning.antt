@@ -1,4 +1,4 @@
--- Demand 2, the meaning of a read: an accepted read only appends, and each root place names a cell of the structure that the bag's root has.
+-- Demand 2 (docs/DEMANDS.md), the meaning of a read: an accepted read only appends, and each root place names a cell of the structure that the bag's root has.
 -- Assumes nothing.
 use mathlib.Core.Path.{_≡_, refl, sym, ap, _∙_, subst}
 use Prim.Native.Nat.{ℕ, _+_, _-_, _≤_, _<_}

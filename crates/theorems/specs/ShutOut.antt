@@ -1,5 +1,5 @@
--- Programs that the theorems shut out. Each theorem is a demand on a definition: the one that the code is proved against meets it, and wrong ones, which
--- answer every call as well, are proved not to.
+-- Programs that the theorems shut out. Each theorem is put as something that a definition may meet or not: the one that the code is proved against meets it,
+-- and wrong ones, which answer every call as well, are proved not to. Demands 2 and 3 are those of docs/DEMANDS.md.
 -- Assumes nothing.
 use mathlib.Core.Path.{_≡_, refl, sym, ap, _∙_}
 use mathlib.Core.Logic.{_↔_}

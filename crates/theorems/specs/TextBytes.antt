@@ -50,7 +50,7 @@ small-cells : (size : ℕ) (cs : List RawCell) → ((c : RawCell) → Mem c cs �
 small-cells size [] F = small-none
 small-cells size (c ∷ cs) F = small-append (cellText size c) (cellsText size cs) (small-cell size c (F c (here refl))) (small-cells size cs (λ d m. F d (there m)))
 
--- Demand 2: a text of the grammar is made of bytes.
+-- Demand 2 (docs/DEMANDS.md): a text of the grammar is made of bytes.
 pub text-bytes : (scratch room : ℕ) (h : Head) (cs : List RawCell) → Admissible scratch room h cs → Small (serialized h cs)
 unfolding serialized unsigned byte4
 text-bytes scratch room h cs Q = small-append (unsigned h cs) _ front (sum (h .has-crc))

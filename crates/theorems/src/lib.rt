@@ -1,1 +1,1 @@
-// The theorems that the order asks for, over the definitions of `scheme`. They are in specs/; there is no code.
+// What the definitions of `scheme` mean, as theorems (docs/DEMANDS.md says what for). They are in specs/; there is no code.
