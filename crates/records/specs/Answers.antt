@@ -1,8 +1,8 @@
--- What reading and appending a record answer, and their numbers in the definitions. Assumes nothing.
+-- What each answer is in the definitions, and what reading and appending a record answer by the rules: NOCELL, FULL, or the value. Assumes nothing.
 use Prim.Native.Nat.{ℕ, _<_}
 use native.Mathlib.Omega.{arith}
 use mathlib.Core.Path.{_≡_, refl}
-use mathlib.Core.Bool.{Bool, true, false, cond}
+use mathlib.Core.Bool.{Bool, true, false}
 use lib.Dec.{ltb}
 use mathlib.Core.List.{List}
 use lib.ListN.{length, getD}
@@ -16,14 +16,6 @@ use Rattle.records.specs.declared.RecordAdded.{RecordAdded}
 use Rattle.records.specs.declared.RecordAdded.the-variants as added
 use Rattle.records.specs.Record.{blank, lesserOf}
 use Rattle.records.specs.Laws.{lesser-le}
-
--- the record r at number n, of which the first count are in use
-abbrev pub readOf : ℕ → ℕ → CellRecord → RecordRead
-readOf n count r = cond (ltb n count) (read.Record r) (read.Refused (refusal NOCELL 0))
-
--- a record at number count, stored or not
-abbrev pub addedOf : Bool → ℕ → RecordAdded
-addedOf stored count = cond stored (added.Number count) (added.Refused (refusal FULL 0))
 
 abbrev pub readPaper : RecordRead → Res CellRecord
 readPaper (read.Record r) = ok r
@@ -45,27 +37,31 @@ added-inj (added.Number n) (added.Refused s) e = cc
 added-inj (added.Refused r) (added.Number m) e = cc
 added-inj (added.Refused r) (added.Refused s) e = cc
 
--- the answers, as the definitions have them: NOCELL, FULL, or the value
-pub read-is : (n count : ℕ) (r : CellRecord) → readPaper (readOf n count r) ≡ then (check (ltb n count) (refusal NOCELL 0)) (λ _. ok r)
-read-is n count r = go (ltb n count)
-  where
-    go : (b : Bool) → readPaper (cond b (read.Record r) (read.Refused (refusal NOCELL 0))) ≡ then (check b (refusal NOCELL 0)) (λ _. ok r)
-    go true = refl
-    go false = refl
+-- the record r at number n, of which the first count are in use
+abbrev pub readOf : ℕ → ℕ → CellRecord → Res CellRecord
+readOf n count r = then (check (ltb n count) (refusal NOCELL 0)) λ _. ok r
 
-pub added-is : (stored : Bool) (count : ℕ) → addedPaper (addedOf stored count) ≡ then (check stored (refusal FULL 0)) (λ _. ok count)
-added-is true count = refl
-added-is false count = refl
+-- a record at number count, stored or not
+abbrev pub addedOf : Bool → ℕ → Res ℕ
+addedOf stored count = then (check stored (refusal FULL 0)) λ _. ok count
 
 -- a record that is read is held: it is below the count, and the table has it
-pub read-held : (ys : List CellRecord) (n count : ℕ) (r : CellRecord) → readOf n (lesserOf count (length ys)) (getD ys n blank) ≡ read.Record r
+pub read-held : (ys : List CellRecord) (n count : ℕ) (r : CellRecord) → readPaper (read.Record r) ≡ readOf n (lesserOf count (length ys)) (getD ys n blank)
     → (n < count) × (n < length ys) × (r ≡ getD ys n blank)
 read-held ys n count r = go (ltb n (lesserOf count (length ys))) refl
   where
-    go : (b : Bool) → ltb n (lesserOf count (length ys)) ≡ b → cond b (read.Record (getD ys n blank)) (read.Refused (refusal NOCELL 0)) ≡ read.Record r
+    go : (b : Bool) → ltb n (lesserOf count (length ys)) ≡ b → _≡_ {A = Res CellRecord} (ok r) (then (check b (refusal NOCELL 0)) λ _. ok (getD ys n blank))
         → (n < count) × (n < length ys) × (r ≡ getD ys n blank)
     go true t e =
         let h : n < lesserOf count (length ys) = ltb-true n (lesserOf count (length ys)) t in
         let q : r ≡ getD ys n blank = cc in
         (omega (arith, h, lesser-le count (length ys) .0), omega (arith, h, lesser-le count (length ys) .1), q)
+    go false t e = let z : _≡_ {A = ℕ} 0 1 = cc in absurd (omega arith)
+
+-- an append that answers a number is one the table had room for, and the number is the count
+pub added-held : (ys : List CellRecord) (count n : ℕ) → addedPaper (added.Number n) ≡ addedOf (ltb count (length ys)) count → (count < length ys) × (n ≡ count)
+added-held ys count n = go (ltb count (length ys)) refl
+  where
+    go : (b : Bool) → ltb count (length ys) ≡ b → _≡_ {A = Res ℕ} (ok n) (then (check b (refusal FULL 0)) λ _. ok count) → (count < length ys) × (n ≡ count)
+    go true t e = let q : n ≡ count = cc in (ltb-true count (length ys) t, q)
     go false t e = let z : _≡_ {A = ℕ} 0 1 = cc in absurd (omega arith)

@@ -3,7 +3,7 @@ ghost use mathlib.Core.Path.{_≡_};
 ghost use Prim.Native.Nat.{_<_, _≤_, _+_, _*_};
 ghost use lib.Dec.{ltb};
 ghost use lib.ListN.{length, set, getD};
-ghost use Rattle.records.specs.Answers.{readOf, addedOf};
+ghost use Rattle.records.specs.Answers.{readOf, addedOf, readPaper, addedPaper};
 ghost use Rattle.records.specs.Record.{blank, recordOf, putFlat, lesserOf, roomFor, exportRecs, importRecs};
 use scheme::FULL;
 use scheme::NOCELL;
@@ -160,7 +160,7 @@ fn blank_record() -> CellRecord
 }
 
 fn read_answer(r: CellRecord, n: usize, count: usize) -> RecordRead
-    ensures { λ a. ⌜ a ≡ readOf n count r ⌝ }
+    ensures { λ a. ⌜ readPaper a ≡ readOf n count r ⌝ }
 {
     if n < count {
         return RecordRead::Record(r);
@@ -173,7 +173,7 @@ fn read_answer(r: CellRecord, n: usize, count: usize) -> RecordRead
 
 // Record n of a table of which the first count are in use: NOCELL from count on, and past the end of the table.
 pub fn read_record(table: &[CellRecord], n: usize, count: usize) -> RecordRead
-    ensures { λ a. ⌜ a ≡ readOf n (lesserOf count (length (now (table .entry)))) (getD (now (table .entry)) n blank) ⌝ }
+    ensures { λ a. ⌜ readPaper a ≡ readOf n (lesserOf count (length (now (table .entry)))) (getD (now (table .entry)) n blank) ⌝ }
 {
     read_answer(
         record_or(table, n, blank_record()),
@@ -183,7 +183,7 @@ pub fn read_record(table: &[CellRecord], n: usize, count: usize) -> RecordRead
 }
 
 fn added_answer(stored: bool, count: usize) -> RecordAdded
-    ensures { λ a. ⌜ a ≡ addedOf stored count ⌝ }
+    ensures { λ a. ⌜ addedPaper a ≡ addedOf stored count ⌝ }
 {
     if stored {
         return RecordAdded::Number(count);
@@ -196,7 +196,7 @@ fn added_answer(stored: bool, count: usize) -> RecordAdded
 
 // A record behind the first count of a table, which are in use: FULL where the table has no more.
 pub fn append_record(table: &mut [CellRecord], count: usize, r: CellRecord) -> RecordAdded
-    ensures { λ a. ⌜ (a ≡ addedOf (ltb count (length (now (table .entry)))) count) × (now (table .exit) ≡ set (now (table .entry)) count r) ⌝ }
+    ensures { λ a. ⌜ (addedPaper a ≡ addedOf (ltb count (length (now (table .entry)))) count) × (now (table .exit) ≡ set (now (table .entry)) count r) ⌝ }
 {
     added_answer(store_record(table, count, r), count)
 }

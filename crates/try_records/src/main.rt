@@ -5,7 +5,7 @@ ghost use lib.Dec.{ltb};
 ghost use mathlib.Core.List.{_++_};
 ghost use Prim.Native.Nat.{_*_, _≤_};
 ghost use lib.ListN.{length, getD, set, take, drop};
-ghost use Rattle.records.specs.Answers.{readOf, addedOf};
+ghost use Rattle.records.specs.Answers.{readOf, addedOf, readPaper, addedPaper};
 ghost use Rattle.records.specs.Record.{blank, lesserOf, roomFor, exportRecs, importRecs};
 use builder::CellBuilder;
 use records::CellRecord;
@@ -51,7 +51,7 @@ fn places(table: [CellRecord; PLACES]) -> usize
 }
 
 fn read(table: [CellRecord; PLACES], n: usize, count: usize) -> RecordRead
-    ensures { λ a. ⌜ a ≡ readOf n (lesserOf count (length table)) (getD table n blank) ⌝ }
+    ensures { λ a. ⌜ readPaper a ≡ readOf n (lesserOf count (length table)) (getD table n blank) ⌝ }
 {
     records::read_record(&table, n, count)
 }
@@ -72,7 +72,7 @@ fn export(flat: &[u32], n: usize, mut table: [CellRecord; PLACES]) -> Exported
 }
 
 fn append(mut table: [CellRecord; PLACES], count: usize, r: CellRecord) -> Appended
-    ensures { λ a. ⌜ (a .answer ≡ addedOf (ltb count (length table)) count) × (a .table ≡ set table count r) ⌝ }
+    ensures { λ a. ⌜ (addedPaper (a .answer) ≡ addedOf (ltb count (length table)) count) × (a .table ≡ set table count r) ⌝ }
 {
     let answer = records::append_record(&mut table, count, r);
     Appended { answer, table }

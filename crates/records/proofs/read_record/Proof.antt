@@ -41,7 +41,7 @@ use denote.Exit.{yes}
 use Rattle.records.specs.declared.CellRecord.{CellRecord}
 use Rattle.records.specs.declared.RecordRead.{RecordRead}
 use Rattle.records.specs.Record.{blank, lesserOf}
-use Rattle.records.specs.Answers.{readOf}
+use Rattle.records.specs.Answers.{readOf, readPaper}
 use Rattle.records.proofs.CellRecord as T
 use Rattle.records.proofs.CellRecord.Laws as T′
 use Rattle.records.proofs.RecordRead as E
@@ -161,10 +161,11 @@ module _ {M : Type 1} (𝓤 : URA M) (H : Heap 𝓤) (A : Atoms 𝓤) (W : Given
       owned ! usize (Is usize) (uint-makes 𝓤 H A W w64) n _ (refl, gn) $ fjoin ! $ move ! (1 ∷ 0 ∷ []) $ fjoin ! $ nothing ! $ join ! $ frame ! $ done !
 
   answer-said : (e : CellRecord) (c : ℕ) (t : RecordRead) → ent 𝓤 (ensured 𝓤 H A answer′.ended (answer′.clauses 𝓤 H A mem run) tt (e, (n, (c, tt))) tt t)
-      (fact 𝓤 (t ≡ readOf n c e))
-  answer-said e c t = exE 𝓤 _ (λ ws. snd∗ 𝓤 (sem 𝓤 H A (lasts answer′.ended tt (e, (n, (c, tt))) ws)) (fact 𝓤 (t ≡ readOf n c e)))
+      (fact 𝓤 (readPaper t ≡ readOf n c e))
+  answer-said e c t = exE 𝓤 _ (λ ws. snd∗ 𝓤 (sem 𝓤 H A (lasts answer′.ended tt (e, (n, (c, tt))) ws)) (fact 𝓤 (readPaper t ≡ readOf n c e)))
 
-  exits : (t : RecordRead) (u : Val) → t ≡ readOf n held elem → ent 𝓤 (⋆ 𝓤 H A (‵ (E.the-row .own t (u ∷ [])) ∷ (‵ (flft κ q) ⊛ ‵ ftrue) ∷ ‵ Own ∷ ‵ Rest ∷ [])) (Post u)
+  exits : (t : RecordRead) (u : Val) → readPaper t ≡ readOf n held elem
+      → ent 𝓤 (⋆ 𝓤 H A (‵ (E.the-row .own t (u ∷ [])) ∷ (‵ (flft κ q) ⊛ ‵ ftrue) ∷ ‵ Own ∷ ‵ Rest ∷ [])) (Post u)
   exits t u e =
       qed W (‵ (E.the-row .own t (u ∷ [])) ∷ (‵ (flft κ q) ⊛ ‵ ftrue) ∷ ‵ Own ∷ ‵ Rest ∷ []) ∵
       suffices ! _ (ends-at 𝓤 H A f.ended stayed (f.clauses 𝓤 H A mem run) W (((κ, tt), (q, tt), tt, x, at), tt) u t (tt, (tt, (tt, tt))) (tt, (tt, (tt, tt)))) $ says ! e $
@@ -219,7 +220,8 @@ module _ {M : Type 1} (𝓤 : URA M) (H : Heap 𝓤) (A : Atoms 𝓤) (W : Given
         (and-then ! (load ! (from ! (stop !)) (look ! 6 refl)) (no-more !)))) (λ u′.
         use1 W (later (some (λ (t : RecordRead). (‵ ftrue ⊛ ‵ (E.the-row .own t (u′ ∷ [])))
         ⊛ raw (ensured 𝓤 H A answer′.ended (answer′.clauses 𝓤 H A mem run) tt (e, (n, (c, tt))) tt t)))) (id⊢ 𝓤 _) $ await ! tt $ pick ! (λ t.
-        split ! $ move ! (1 ∷ []) $ use1 W (raw (fact 𝓤 (t ≡ readOf n c e))) (answer-said e c t) $ heard ! (t ≡ readOf n c e) (λ e₃. split ! $ drop ! $
+        split ! $ move ! (1 ∷ []) $ use1 W (raw (fact 𝓤 (readPaper t ≡ readOf n c e))) (answer-said e c t) $
+        heard ! (readPaper t ≡ readOf n c e) (λ e₃. split ! $ drop ! $
         -- [the result; the token; what table owns; what n and count own; _7; …; _6; …; _5; …; _4; …; _3; …; _2; …; _1; …; room for _0; …]
         peeks ! E.the-row (Is E.the-row) (shows 𝓤 H A E.the-row) t (u′ ∷ []) (λ is′.
         land ! (from ! (stop !)) (init ! 18 refl (LE.lawful E.the-type E′.the-laws 𝓤 H A W tt .typed t _ is′ .0)) $

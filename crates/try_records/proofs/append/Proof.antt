@@ -43,7 +43,7 @@ use denote.Triple.Walked.{says, Stays, stay-none, walkOf, goes-none, Walks, ends
 use denote.Exit.{yes}
 use Rattle.records.specs.declared.CellRecord.{CellRecord}
 use Rattle.records.specs.declared.RecordAdded.{RecordAdded}
-use Rattle.records.specs.Answers.{addedOf}
+use Rattle.records.specs.Answers.{addedOf, addedPaper}
 use Rattle.records.proofs.CellRecord as T
 use Rattle.records.proofs.CellRecord.Laws as T′
 use Rattle.records.proofs.RecordAdded as D
@@ -79,7 +79,7 @@ module _ {M : Type 1} (𝓤 : URA M) (H : Heap 𝓤) (A : Atoms 𝓤) (W : Given
   Post = walkOf 𝓤 H A f.ended stayed (f.clauses 𝓤 H A mem run) .post ((tt, tt, tt, x, at), tt)
 
   abbrev Said : RecordAdded → List CellRecord → Type 0
-  Said a zs = (a ≡ addedOf (ltb i (length ys)) i) × (zs ≡ set ys i r)
+  Said a zs = (addedPaper a ≡ addedOf (ltb i (length ys)) i) × (zs ≡ set ys i r)
 
   -- the result, and its machine value
   abbrev made : RecordAdded → List CellRecord → E.the-row .Denot

@@ -40,10 +40,11 @@ use denote.Triple.Spec.{Meets, tripleOf}
 use denote.Triple.Table.{entered, cited}
 use denote.Triple.Walked.{says, Stays, stay-none, walkOf, goes-none, Walks, ends-at, walked, walk-meets}
 use denote.Exit.{yes}
+use Rattle.scheme.specs.Res.{Res}
 use Rattle.records.specs.declared.CellRecord.{CellRecord}
 use Rattle.records.specs.declared.RecordRead.{RecordRead}
 use Rattle.records.specs.Record.{blank, lesserOf}
-use Rattle.records.specs.Answers.{readOf}
+use Rattle.records.specs.Answers.{readOf, readPaper}
 use Rattle.records.proofs.CellRecord as T
 use Rattle.records.proofs.CellRecord.Laws as T′
 use Rattle.records.proofs.RecordRead as E
@@ -73,13 +74,14 @@ module _ {M : Type 1} (𝓤 : URA M) (H : Heap 𝓤) (A : Atoms 𝓤) (W : Given
   abbrev at : Vals f.signature tt
   at = (value ys ∷ [], (vint w64 n ∷ [], (vint w64 m ∷ [], tt)))
 
-  abbrev answer : RecordRead
+  abbrev answer : Res CellRecord
   answer = readOf n (lesserOf m (length ys)) (getD ys n blank)
 
   abbrev Post : Val → SProp 𝓤
   Post = walkOf 𝓤 H A f.ended stayed (f.clauses 𝓤 H A mem run) .post ((tt, tt, tt, x, at), tt)
 
-  exits : (i : RecordRead) (u : Val) → i ≡ answer → ent 𝓤 (⋆ 𝓤 H A (‵ (E.the-row .own i (u ∷ [])) ∷ ‵ (owns (Records 4 ∷ usize ∷ usize ∷ []) x at) ∷ [])) (Post u)
+  exits : (i : RecordRead) (u : Val) → readPaper i ≡ answer
+      → ent 𝓤 (⋆ 𝓤 H A (‵ (E.the-row .own i (u ∷ [])) ∷ ‵ (owns (Records 4 ∷ usize ∷ usize ∷ []) x at) ∷ [])) (Post u)
   exits i u e =
       qed W (‵ (E.the-row .own i (u ∷ [])) ∷ ‵ (owns (Records 4 ∷ usize ∷ usize ∷ []) x at) ∷ []) ∵
       suffices ! _ (ends-at 𝓤 H A f.ended stayed (f.clauses 𝓤 H A mem run) W ((tt, tt, tt, x, at), tt) u i (tt, (tt, (tt, tt))) (tt, (tt, (tt, tt)))) $ says ! e $
@@ -100,8 +102,9 @@ module _ {M : Type 1} (𝓤 : URA M) (H : Heap 𝓤) (A : Atoms 𝓤) (W : Given
         nothing ! $ owned ! usize (Is usize) (uint-makes 𝓤 H A W w64) m _ (refl, gm) $ fjoin ! $ owned ! usize (Is usize) (uint-makes 𝓤 H A W w64) n _ (refl, gn) $ fjoin ! $
         move ! (2 ∷ 0 ∷ []) $ fjoin ! $ move ! (1 ∷ 0 ∷ []) $ join ! $ frame ! $ done !
 
-    read-said : (i : RecordRead) → ent 𝓤 (ensured 𝓤 H A read′.ended (read′.clauses 𝓤 H A mem run) (ν ∷ [], tt) (slice l δ ys, (n, (m, tt))) tt i) (fact 𝓤 (i ≡ answer))
-    read-said i = exE 𝓤 _ (λ ws. snd∗ 𝓤 (sem 𝓤 H A (lasts read′.ended (ν ∷ [], tt) (slice l δ ys, (n, (m, tt))) ws)) (fact 𝓤 (i ≡ answer)))
+    read-said : (i : RecordRead) → ent 𝓤 (ensured 𝓤 H A read′.ended (read′.clauses 𝓤 H A mem run) (ν ∷ [], tt) (slice l δ ys, (n, (m, tt))) tt i)
+        (fact 𝓤 (readPaper i ≡ answer))
+    read-said i = exE 𝓤 _ (λ ws. snd∗ 𝓤 (sem 𝓤 H A (lasts read′.ended (ν ∷ [], tt) (slice l δ ys, (n, (m, tt))) ws)) (fact 𝓤 (readPaper i ≡ answer)))
 
   module _ (C : Calls 𝓤 H) (Λ : Loops 𝓤 H) (fm : FmC 𝓤 H (W .laws) C) (known : Triple 𝓤 (C #records·read-record) (ReadRecord 𝓤 H A mem run)) where
     walk : ent 𝓤 (onEntry 𝓤 H A f.signature tt tt x at) (WpFn 𝓤 H C Λ code.function (value ys ∷ vint w64 n ∷ vint w64 m ∷ []) Post)
@@ -127,7 +130,8 @@ module _ {M : Type 1} (𝓤 : URA M) (H : Heap 𝓤) (A : Atoms 𝓤) (W : Given
         (and-then ! (load ! (from ! (stop !)) (look ! 7 refl)) (no-more !)))) (λ u.
         use1 W (later (some (λ (i : RecordRead). ((‵ (flft (ν ∷ []) fullShare) ⊛ ‵ ftrue) ⊛ ‵ (E.the-row .own i (u ∷ [])))
         ⊛ raw (ensured 𝓤 H A read′.ended (read′.clauses 𝓤 H A mem run) (ν ∷ [], tt) (slice l₄ δ ys, (n, (m, tt))) tt i)))) (id⊢ 𝓤 _) $ await ! tt $ pick ! (λ i.
-        split ! $ move ! (1 ∷ []) $ use1 W (raw (fact 𝓤 (i ≡ answer))) (read-said l₄ ν δ i) $ heard ! (i ≡ answer) (λ e. split ! $ move ! (1 ∷ []) $
+        split ! $ move ! (1 ∷ []) $ use1 W (raw (fact 𝓤 (readPaper i ≡ answer))) (read-said l₄ ν δ i) $
+        heard ! (readPaper i ≡ answer) (λ e. split ! $ move ! (1 ∷ []) $
         peeks ! E.the-row (Is E.the-row) (shows 𝓤 H A E.the-row) i (u ∷ []) (λ is.
         land ! (from ! (stop !)) (init ! 14 refl (LE.lawful E.the-type E′.the-laws 𝓤 H A W tt .typed i _ is .0)) $
         -- the lifetime is ended, and the local is there again
