@@ -80,7 +80,7 @@ pub exported-cell : (t d : List ℕ) (k : ℕ) (ys : List CellRecord) (i : ℕ) 
 exported-cell t d k ys i h l w few = ap (λ (r : CellRecord). recordCell r (drop (i * 128) d)) (export-at t k ys i h l) ∙ record-cell t d i w few
 
 -- the seven numbers of a record, and where they stand in the flat table
-abbrev numbers : CellRecord → List ℕ
+abbrev pub numbers : CellRecord → List ℕ
 numbers r = r .exotic ∷ r .len ∷ r .refs ∷ r .r0 ∷ r .r1 ∷ r .r2 ∷ r .r3 ∷ []
 
 numbers-of : (t : List ℕ) (n : ℕ) → 7 * n + 7 ≤ length t → take 7 (drop (7 * n) t) ≡ numbers (recordOf t n)
@@ -96,7 +96,7 @@ numbers-of t n h =
           (7 * n) h,
     ) refl
 
-put-is : (xs : List ℕ) (n : ℕ) (r : CellRecord) → 7 * n + 7 ≤ length xs → putFlat xs n r ≡ take (7 * n) xs ++ numbers r ++ drop (7 * n + 7) xs
+pub put-is : (xs : List ℕ) (n : ℕ) (r : CellRecord) → 7 * n + 7 ≤ length xs → putFlat xs n r ≡ take (7 * n) xs ++ numbers r ++ drop (7 * n + 7) xs
 put-is xs n r h =
     let e₁ : 7 * n + 1 ≡ suc (7 * n) = omega arith in
     let e₂ : 7 * n + 2 ≡ suc (suc (7 * n)) = omega arith in
@@ -107,7 +107,7 @@ put-is xs n r h =
     rw (e₁, e₂, e₃, e₄, e₅, e₆) (sets-eq (numbers r) xs (7 * n) h)
 
 -- records that are those of a flat table t, copied to a flat table xs: the first numbers of t, and the others as they were
-import-into : (t xs : List ℕ) (zs : List CellRecord) (k : ℕ) → 7 * k ≤ length t → 7 * k ≤ length xs → ((i : ℕ) → i < k → getD zs i blank ≡ recordOf t i)
+pub import-into : (t xs : List ℕ) (zs : List CellRecord) (k : ℕ) → 7 * k ≤ length t → 7 * k ≤ length xs → ((i : ℕ) → i < k → getD zs i blank ≡ recordOf t i)
     → importRecs zs k xs ≡ take (7 * k) t ++ drop (7 * k) xs
 import-into t xs zs zero ht hx f = refl
 import-into t xs zs (suc k) ht hx f =
@@ -145,7 +145,8 @@ round-trip-whole t xs ys n e l h =
 -- what the two copies promise, one after the other: r records of t stand in xs′, where xs is as long as t
 pub there-and-back : (t xs : List ℕ) (ys : List CellRecord) (n c r : ℕ) (zs : List CellRecord) (xs′ : List ℕ)
     → (c ≡ roomFor (length t) (length ys) n) × (zs ≡ exportRecs t (roomFor (length t) (length ys) n) ys)
-    → (r ≡ roomFor (length xs) (length zs) c) × (xs′ ≡ importRecs zs (roomFor (length xs) (length zs) c) xs) → length t ≤ length xs → xs′ ≡ take (7 * r) t ++ drop (7 * r) xs
+    → (r ≡ roomFor (length xs) (length zs) c) × (xs′ ≡ importRecs zs (roomFor (length xs) (length zs) c) xs) → length t ≤ length xs
+    → xs′ ≡ take (7 * r) t ++ drop (7 * r) xs
 there-and-back t xs ys n c r zs xs′ (e, f) (g, h) l =
     let z : zs ≡ exportRecs t c ys = f ∙ ap (λ (k : ℕ). exportRecs t k ys) (sym e) in
     let w : length zs ≡ length ys = ap length z ∙ length-export t c ys in
