@@ -114,6 +114,7 @@ module _ (n : ℕ) (t d : List ℕ) (i budget scratch room : ℕ) where
   pub record Went : Type 0 where
     pub whole : sound n t d ≡ true
     pub held : i < n
+    pub within : sizeAt t d i ≤ min budget 65535
     pub fits : length (textAt t d i) ≤ room
     pub page-is : Said ≡ ok (record { text = textAt t d i; cells = sizeAt t d i })
 
@@ -130,7 +131,7 @@ module _ (n : ℕ) (t d : List ℕ) (i budget scratch room : ℕ) where
       (λ k. let k = leb-true n scratch k in ⊎-elim
       (λ p. let p = leb-true (height (cellAt t d) i) 256 p in ⊎-elim
       (λ q. let q = leb-true (sizeAt t d i) (min budget 65535) q in ⊎-elim
-      (λ r. let r = leb-true (length (textAt t d i)) room r in record { whole = e; held = h; fits = r; page-is = all-fits e h k p q r })
+      (λ r. let r = leb-true (length (textAt t d i)) room r in record { whole = e; held = h; within = q; fits = r; page-is = all-fits e h k p q r })
       (λ r. absurd (not-go _ (no-room e h k p q (leb-false (length (textAt t d i)) room r)) g))
       (bool-cases (leb (length (textAt t d i)) room)))
       (λ q. absurd (not-go _ (over-budget e h k p (leb-false (sizeAt t d i) (min budget 65535) q)) g))

@@ -2,7 +2,7 @@
 use mathlib.Core.Path.{_≡_, refl, sym, ap, _∙_}
 use mathlib.Core.List.{List, [], _∷_, _++_, map, append-assoc, append-nil}
 use Prim.Native.Nat.{ℕ, zero, suc, _+_, _-_, _*_, _/_, _<_, _≤_, min}
-use native.Mathlib.Nat.{not-suc-le-zero, le-of-eq, le-refl, add-zero, eq-or-lt-of-le}
+use native.Mathlib.Nat.{not-suc-le-zero, pos-of-ne-zero, le-of-eq, le-refl, add-zero, eq-or-lt-of-le}
 use mathlib.Core.Logic.{⊎-elim}
 use native.Mathlib.Omega.{arith}
 use lib.ListN.{length, take, drop, getD, length-append, length-map, length-take, length-drop}
@@ -10,49 +10,15 @@ use Rattle.scheme.specs.Cells.{Cell}
 use Rattle.laws.specs.Records.{refsAt, RecordOk, CellsOk, refs-cons, refs-end, refs-length}
 use Rattle.scheme.specs.Memory.{cellAt}
 use Rattle.laws.specs.Puts.{puts, puts-then}
-use Rattle.scheme.specs.Text.{digits, hex, sum, sizeStep, own, joined, behind, textStep, treeSize, textOf}
+use Rattle.scheme.specs.Text.{digits, hex, sum, sizeStep, own, joined, behind, textStep, textOf}
 use Rattle.text.specs.Parts.{bytesAt, around, lengthStep, textLength, ownAt, textAt, sizeAt, refsText, refsSize}
 use Rattle.text.proofs.Digits.{hex-length, digits-4}
 use Rattle.laws.specs.Passes.{Caps, sum-cut}
-use Rattle.laws.specs.Folds.{Both, value-at, value-both, both-map}
+use Rattle.laws.specs.Folds.{Both, value-at, value-both}
 
 pub own-length : (n : ℕ) (b : List ℕ) → length (own n b) ≡ length (digits 4 n) + 3 + length (hex b) + 1
 unfolding own
 own-length n b = simp length-append
-
--- a text is at least as long as its tree has cells
-Fewer : ℕ → List ℕ → Type 0
-Fewer n t = n ≤ length t
-
-sum-joined : (ns : List ℕ) (ts : List (List ℕ)) → Both Fewer ns ts → sum ns ≤ length (joined ts)
-unfolding sum joined Fewer
-sum-joined [] [] h = omega arith
-sum-joined [] (t ∷ ts) h = absurd h
-sum-joined (n ∷ ns) [] h = absurd h
-sum-joined (n ∷ []) (t ∷ []) h = omega (arith, h .0)
-sum-joined (n ∷ []) (t ∷ u ∷ us) h = absurd (h .1)
-sum-joined (n ∷ m ∷ ms) (t ∷ []) h = absurd (h .1)
-sum-joined (n ∷ m ∷ ms) (t ∷ u ∷ us) h =
-    let e = sum-joined (m ∷ ms) (u ∷ us) (h .1) in
-    simp length-append (omega (arith, h .0, e))
-
-fewer-step : (c : Cell) (ns : List ℕ) (ts : List (List ℕ)) → Both Fewer ns ts → Fewer (sizeStep c ns) (textStep c ts)
-unfolding Fewer behind sum
-fewer-step c [] [] h = simp length-append (omega (arith, own-length (c .len) (c .bytes)))
-fewer-step c [] (t ∷ ts) h = absurd h
-fewer-step c (n ∷ ns) [] h = absurd h
-fewer-step c (n ∷ ns) (t ∷ ts) h = simp length-append (omega (arith, own-length (c .len) (c .bytes), sum-joined (n ∷ ns) (t ∷ ts) h))
-
-size-fewer : (cs : ℕ → Cell) (n : ℕ) → Fewer (treeSize cs n) (textOf cs n)
-unfolding Fewer
-size-fewer cs n = value-both Fewer sizeStep textStep 0 [] cs n (omega arith) (λ i l xs ys e h. fewer-step (cs i) xs ys h) n (le-refl n)
-
-pub size-le : (cs : ℕ → Cell) (n : ℕ) → treeSize cs n ≤ length (textOf cs n)
-unfolding Fewer
-size-le cs n = size-fewer cs n
-
-pub sizes-le : (cs : ℕ → Cell) (rs : List ℕ) → sum (map (treeSize cs) rs) ≤ length (joined (map (textOf cs) rs))
-sizes-le cs rs = sum-joined (map (treeSize cs) rs) (map (textOf cs) rs) (both-map Fewer (treeSize cs) (textOf cs) rs (size-fewer cs))
 
 -- ---- a cell's own part
 
@@ -185,6 +151,10 @@ module _ (t d : List ℕ) (n : ℕ) (ok : RecordOk t n) where
         let b₃ : b ≡ at + length (x ++ w) = omega (arith, length-append x w) in
         let q₃ = puts-then l₀ l₂ l₃ at b (x ++ w) (refsText t d n (j + 1)) q₂ b₃ e₃ in
         q₃ ∙ ap (puts l₀ at) (sym (text-more l))
+
+-- a count of references that is not 0
+pub some-refs : (t : List ℕ) (n k : ℕ) → k ≡ getD t (n * 7 + 2) 0 → (k ≡ 0 → ⊥) → 0 < getD t (n * 7 + 2) 0
+some-refs t n k e h = rw e at (pos-of-ne-zero h)
 
 -- the sizes of no references
 pub size-leaf : (t d : List ℕ) (n : ℕ) → RecordOk t n → getD t (n * 7 + 2) 0 ≡ 0 → refsSize t d n 0 ≡ 0

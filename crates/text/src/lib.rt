@@ -1,6 +1,6 @@
 // The Debug text of a cell. Passes by number find what the text takes; nothing is written before every refusal is ruled out.
 ghost use mathlib.Core.Path.{_≡_};
-ghost use Prim.Native.Nat.{ℕ, _+_, _*_, _≤_, _<_, min};
+ghost use Prim.Native.Nat.{ℕ, _+_, _-_, _*_, _≤_, _<_, min};
 ghost use mathlib.Core.List.{List, _++_, map};
 ghost use lib.ListN.{length, drop, getD};
 ghost use Rattle.scheme.specs.Memory.{cellAt};
@@ -212,56 +212,71 @@ fn put_own(table: &[u32], bytes: &[u8], out: &mut [u8], at: usize, n: usize) -> 
     put_byte(out, e, b']')
 }
 
-// Where the walk stands: the next place, and the number of cells printed.
+// Where the walk stands: the next place, and the cells that are still allowed.
 struct Walked {
     next: usize,
-    cells: usize,
+    left: usize,
 }
 
-// Writes the text of cell n: its own part, and the texts of its references.
-fn print_cell(table: &[u32], bytes: &[u8], out: &mut [u8], at: usize, n: usize) -> Walked
+// Writes the text of cell n: its own part, and the texts of its references. Takes the cells that it prints off those allowed.
+fn print_cell(
+    table: &[u32],
+    bytes: &[u8],
+    out: &mut [u8],
+    at: usize,
+    n: usize,
+    left: usize,
+) -> Walked
     requires { ⌜ CellsOk (now table) (now bytes) (n + 1) ⌝ }
     requires { ⌜ at + length (textAt (now table) (now bytes) n) ≤ length (now out) ⌝ }
+    requires { ⌜ sizeAt (now table) (now bytes) n ≤ left ⌝ }
     ensures next { λ r. ⌜ r .next ≡ at + length (textAt (now (table .entry)) (now (bytes .entry)) n) ⌝ }
-    ensures count { λ r. ⌜ r .cells ≡ sizeAt (now (table .entry)) (now (bytes .entry)) n ⌝ }
+    ensures remains { λ r. ⌜ r .left ≡ left - sizeAt (now (table .entry)) (now (bytes .entry)) n ⌝ }
     ensures put { λ _. ⌜ now (out .exit) ≡ puts (now (out .entry)) at (textAt (now (table .entry)) (now (bytes .entry)) n) ⌝ }
 {
+    let rest = left - 1;
     let a = put_own(table, bytes, out, at, n);
     let k = field(table, n, REFS_COUNT);
     if k == 0 {
-        return Walked { next: a, cells: 1 };
+        return Walked {
+            next: a,
+            left: rest,
+        };
     }
     let b = put_bytes(b" -> {", out, a);
-    let p = print_refs(table, bytes, out, b, n, 0);
-    let e = p.next;
+    let p = print_refs(table, bytes, out, b, n, 0, rest);
     Walked {
-        next: put_byte(out, e, b'}'),
-        cells: p.cells + 1,
+        next: put_byte(out, p.next, b'}'),
+        left: p.left,
     }
 }
 
-// Writes the texts of cell n's references from the j-th on, joined by `, `.
-fn print_refs(table: &[u32], bytes: &[u8], out: &mut [u8], at: usize, n: usize, j: usize) -> Walked
+// Writes the texts of cell n's references from the j-th on, joined by `, `: each from what the one before it left.
+fn print_refs(
+    table: &[u32],
+    bytes: &[u8],
+    out: &mut [u8],
+    at: usize,
+    n: usize,
+    j: usize,
+    left: usize,
+) -> Walked
     requires { ⌜ CellsOk (now table) (now bytes) (n + 1) ⌝ }
     requires { ⌜ j < getD (now table) (n * 7 + 2) 0 ⌝ }
     requires { ⌜ at + length (refsText (now table) (now bytes) n j) ≤ length (now out) ⌝ }
+    requires { ⌜ refsSize (now table) (now bytes) n j ≤ left ⌝ }
     ensures next { λ r. ⌜ r .next ≡ at + length (refsText (now (table .entry)) (now (bytes .entry)) n j) ⌝ }
-    ensures count { λ r. ⌜ r .cells ≡ refsSize (now (table .entry)) (now (bytes .entry)) n j ⌝ }
+    ensures remains { λ r. ⌜ r .left ≡ left - refsSize (now (table .entry)) (now (bytes .entry)) n j ⌝ }
     ensures put { λ _. ⌜ now (out .exit) ≡ puts (now (out .entry)) at (refsText (now (table .entry)) (now (bytes .entry)) n j) ⌝ }
 {
     let r = field(table, n, FIRST_REF + j);
-    let p = print_cell(table, bytes, out, at, r);
+    let p = print_cell(table, bytes, out, at, r, left);
     let k = field(table, n, REFS_COUNT);
     if k <= j + 1 {
         return p;
     }
-    let e = p.next;
-    let b = put_bytes(b", ", out, e);
-    let q = print_refs(table, bytes, out, b, n, j + 1);
-    Walked {
-        next: q.next,
-        cells: p.cells + q.cells,
-    }
+    let b = put_bytes(b", ", out, p.next);
+    print_refs(table, bytes, out, b, n, j + 1, p.left)
 }
 
 // The cells that a budget allows.
@@ -367,10 +382,11 @@ pub fn debug_text(
     match v {
         Verdict::No(r) => Text::Refused(r),
         Verdict::Go => {
-            let p = print_cell(table, bytes, out, 0, n);
+            let limit = allowed(budget) as usize;
+            let p = print_cell(table, bytes, out, 0, n, limit);
             Text::Printed(Printed {
                 written: p.next,
-                cells: p.cells,
+                cells: limit - p.left,
             })
         }
     }

@@ -1,13 +1,12 @@
 -- `text::print_cell` and `text::print_refs`, which call each other, meet their contracts. The measures: 8 n + 7 of a cell n, 8 n + (4 - j) of its references
--- from j on. Assumes nothing.
+-- from j on. What is left bounds the walk: it covers the cells that are still to print, so that one can be taken off at each. Assumes nothing.
 use mathlib.Core.Path.{_≡_, _∙_}
-use native.Mathlib.Nat.{pos-of-ne-zero}
 use native.Mathlib.Omega.{arith}
-use lib.ListN.{getD, drop}
+use lib.ListN.{getD}
 use borrow.Author.Needs.{needs}
-use Rattle.scheme.specs.Memory.{cellAt}
-use Rattle.laws.specs.Records.{refsAt, RecordOk}
-use Rattle.text.proofs.Texts.{text-leaf, size-eq, size-leaf, own-le, node-length, node-put, size-more, size-last, text-last, first-le, more-length, more-put, size-le, sizes-le, cells-down}
+use Rattle.laws.specs.Records.{RecordOk}
+use Rattle.text.proofs.Texts.{some-refs, text-leaf, size-eq, size-leaf, own-le, node-length, node-put}
+use Rattle.text.proofs.Texts.{size-more, size-last, text-last, first-le, more-length, more-put, cells-down}
 use Prim.Native.Nat.{ℕ, _<_, _≤_, _+_, _*_, _-_}
 use borrow.Fn.Kinds.{In}
 use borrow.Fn.PlainCycle.{Measures, is, falls, and}
@@ -46,529 +45,9 @@ abbrev print-refs-below : ℕ → In 3 print-refs-kinds.ps
 print-refs-below t =
     and 3 print-refs-kinds.ps (falls 3 print-refs-kinds.ps _<_ μ-print-refs t) print-refs.Pre
 
-print-cell-put-own-requires : (t : ℕ) → print-cell-lts.Need-put-own-requires (
-  put-own-reads.Asked,
-  put-own-reads.Learnt,
-  field-reads.Asked,
-  field-reads.Learnt,
-  put-bytes-reads.Asked,
-  put-bytes-reads.Learnt,
-  print-refs-below t,
-  print-refs.Post,
-  put-byte-reads.Asked,
-  put-byte-reads.Learnt,
-) (print-cell-at t) print-cell.Post
-print-cell-put-own-requires t c κs =
-    let s = c .before .before .before .before in
-    let T = s .args .table .now in
-    let D = s .args .bytes .now in
-    let n = s .args .n in
-    let ok : RecordOk T n = s .pre .1 .0 n (omega arith) .ok in
-    (s .pre .1 .0 n (omega arith), omega (arith, own-le T D n ok, s .pre .1 .1))
-
-print-cell-field-requires : (t : ℕ) → print-cell-lts.Need-field-requires (
-  put-own-reads.Asked,
-  put-own-reads.Learnt,
-  field-reads.Asked,
-  field-reads.Learnt,
-  put-bytes-reads.Asked,
-  put-bytes-reads.Learnt,
-  print-refs-below t,
-  print-refs.Post,
-  put-byte-reads.Asked,
-  put-byte-reads.Learnt,
-) (print-cell-at t) print-cell.Post
-print-cell-field-requires t c κs =
-    let s = c .before .before .before .before .before .before .before in
-    let T = s .args .table .now in
-    let D = s .args .bytes .now in
-    let n = s .args .n in
-    let ok : RecordOk T n = s .pre .1 .0 n (omega arith) .ok in
-    (ok .room, omega arith)
-
-print-cell-same-length : (t : ℕ) → print-cell-lts.Need-same-length (
-  put-own-reads.Asked,
-  put-own-reads.Learnt,
-  field-reads.Asked,
-  field-reads.Learnt,
-  put-bytes-reads.Asked,
-  put-bytes-reads.Learnt,
-  print-refs-below t,
-  print-refs.Post,
-  put-byte-reads.Asked,
-  put-byte-reads.Learnt,
-) (print-cell-at t) print-cell.Post
-print-cell-same-length t c = c .before .before .before .before .put-own .kept .1 .1 .0
-
-print-cell-returns : (t : ℕ) → print-cell-lts.Need-returns (
-  put-own-reads.Asked,
-  put-own-reads.Learnt,
-  field-reads.Asked,
-  field-reads.Learnt,
-  put-bytes-reads.Asked,
-  put-bytes-reads.Learnt,
-  print-refs-below t,
-  print-refs.Post,
-  put-byte-reads.Asked,
-  put-byte-reads.Learnt,
-) (print-cell-at t) print-cell.Post
-print-cell-returns t c =
-    let s = c .before .before .before .before .before .before .before .before .before in
-    let T = s .args .table .now in
-    let D = s .args .bytes .now in
-    let n = s .args .n in
-    let ok : RecordOk T n = s .pre .1 .0 n (omega arith) .ok in
-    let k : getD T (n * 7 + 2) 0 ≡ 0 = omega (arith, c .before .field .ensures, c .if1 .taken) in
-    let e = text-leaf T D n ok k in
-    let o = c .before .before .before .before .put-own in
-    (rw e (o .ensures .0), (omega (arith, size-eq T D n ok, size-leaf T D n ok k), rw e (o .ensures .1)))
-
-print-cell-slice-aggregate-put-bytes : (t : ℕ) → print-cell-lts.Need-slice-aggregate-put-bytes (
-  put-own-reads.Asked,
-  put-own-reads.Learnt,
-  field-reads.Asked,
-  field-reads.Learnt,
-  put-bytes-reads.Asked,
-  put-bytes-reads.Learnt,
-  print-refs-below t,
-  print-refs.Post,
-  put-byte-reads.Asked,
-  put-byte-reads.Learnt,
-) (print-cell-at t) print-cell.Post
-print-cell-slice-aggregate-put-bytes t c = search needs
-
-print-cell-put-bytes-requires : (t : ℕ) → print-cell-lts.Need-put-bytes-requires (
-  put-own-reads.Asked,
-  put-own-reads.Learnt,
-  field-reads.Asked,
-  field-reads.Learnt,
-  put-bytes-reads.Asked,
-  put-bytes-reads.Learnt,
-  print-refs-below t,
-  print-refs.Post,
-  put-byte-reads.Asked,
-  put-byte-reads.Learnt,
-) (print-cell-at t) print-cell.Post
-print-cell-put-bytes-requires t c κs =
-    let s = c .before .before .before .before .before .before .before .before .before .before .before in
-    let T = s .args .table .now in
-    let D = s .args .bytes .now in
-    let n = s .args .n in
-    let ok : RecordOk T n = s .pre .1 .0 n (omega arith) .ok in
-    let k : 0 < getD T (n * 7 + 2) 0 = rw (c .before .before .before .field .ensures) at (pos-of-ne-zero (c .before .before .if1 .left)) in
-    let l = node-length T D n ok k in
-    let o = c .before .before .before .before .before .before .put-own in
-    omega (arith, l, s .pre .1 .1, o .ensures .0, o .kept .1 .1 .0)
-
-print-cell-print-refs-requires : (t : ℕ) → print-cell-lts.Need-print-refs-requires (
-  put-own-reads.Asked,
-  put-own-reads.Learnt,
-  field-reads.Asked,
-  field-reads.Learnt,
-  put-bytes-reads.Asked,
-  put-bytes-reads.Learnt,
-  print-refs-below t,
-  print-refs.Post,
-  put-byte-reads.Asked,
-  put-byte-reads.Learnt,
-) (print-cell-at t) print-cell.Post
-print-cell-print-refs-requires t c κs =
-    let s = c .before .before .before .before .before .before .before .before .before .before .before .before .before .before .before in
-    let T = s .args .table .now in
-    let D = s .args .bytes .now in
-    let n = s .args .n in
-    let ok : RecordOk T n = s .pre .1 .0 n (omega arith) .ok in
-    let k : 0 < getD T (n * 7 + 2) 0 = rw (c .before .before .before .before .before .before .before .field .ensures) at (pos-of-ne-zero (c .before .before .before .before .before .before .if1 .left)) in
-    let l = node-length T D n ok k in
-    let o = c .before .before .before .before .before .before .before .before .before .before .put-own in
-    let w = c .before .before .before .put-bytes in
-    (omega (arith, s .pre .0), (s .pre .1 .0, (k, omega (arith, l, s .pre .1 .1, o .ensures .0, o .kept .1 .1 .0, w .ensures .0, w .kept .1 .0))))
-
-print-cell-put-byte-requires : (t : ℕ) → print-cell-lts.Need-put-byte-requires (
-  put-own-reads.Asked,
-  put-own-reads.Learnt,
-  field-reads.Asked,
-  field-reads.Learnt,
-  put-bytes-reads.Asked,
-  put-bytes-reads.Learnt,
-  print-refs-below t,
-  print-refs.Post,
-  put-byte-reads.Asked,
-  put-byte-reads.Learnt,
-) (print-cell-at t) print-cell.Post
-print-cell-put-byte-requires t c κs =
-    let s = c .before .before .before .before .before .before .before .before .before .before .before .before .before .before .before .before .before .before .before in
-    let T = s .args .table .now in
-    let D = s .args .bytes .now in
-    let n = s .args .n in
-    let ok : RecordOk T n = s .pre .1 .0 n (omega arith) .ok in
-    let k : 0 < getD T (n * 7 + 2) 0 = rw (c .before .before .before .before .before .before .before .before .before .before .before .field .ensures) at (pos-of-ne-zero (c .before .before .before .before .before .before .before .before .before .before .if1 .left)) in
-    let l = node-length T D n ok k in
-    let o = c .before .before .before .before .before .before .before .before .before .before .before .before .before .before .put-own in
-    let w = c .before .before .before .before .before .before .before .put-bytes in
-    let p = c .before .before .before .print-refs in
-    omega (arith, l, s .pre .1 .1, o .ensures .0, o .kept .1 .1 .0, w .ensures .0, w .kept .1 .0, p .ensures .0, p .kept .1 .1 .0)
-
-print-cell-add-t24 : (t : ℕ) → print-cell-lts.Need-add-t24 (
-  put-own-reads.Asked,
-  put-own-reads.Learnt,
-  field-reads.Asked,
-  field-reads.Learnt,
-  put-bytes-reads.Asked,
-  put-bytes-reads.Learnt,
-  print-refs-below t,
-  print-refs.Post,
-  put-byte-reads.Asked,
-  put-byte-reads.Learnt,
-) (print-cell-at t) print-cell.Post
-print-cell-add-t24 t c =
-    let s = c .before .before .before .before .before .before .before .before .before .before .before .before .before .before .before .before .before .before .before .before .before .before .before in
-    let T = s .args .table .now in
-    let D = s .args .bytes .now in
-    let n = s .args .n in
-    let ok : RecordOk T n = s .pre .1 .0 n (omega arith) .ok in
-    omega (arith, size-le (cellAt T D) n, size-eq T D n ok, s .pre .1 .1, s .good .1 .1 .0, c .before .before .before .before .before .before .before .print-refs .ensures .1 .0)
-
-print-cell-same-length-2 : (t : ℕ) → print-cell-lts.Need-same-length-2 (
-  put-own-reads.Asked,
-  put-own-reads.Learnt,
-  field-reads.Asked,
-  field-reads.Learnt,
-  put-bytes-reads.Asked,
-  put-bytes-reads.Learnt,
-  print-refs-below t,
-  print-refs.Post,
-  put-byte-reads.Asked,
-  put-byte-reads.Learnt,
-) (print-cell-at t) print-cell.Post
-print-cell-same-length-2 t c = c .before .before .before .put-byte .kept .0 ∙ c .before .before .before .before .before .before .before .print-refs .kept .1 .1 .0 ∙ c .before .before .before .before .before .before .before .before .before .before .before .put-bytes .kept .1 .0 ∙ c .before .before .before .before .before .before .before .before .before .before .before .before .before .before .before .before .before .before .put-own .kept .1 .1 .0
-
-print-cell-returns-2 : (t : ℕ) → print-cell-lts.Need-returns-2 (
-  put-own-reads.Asked,
-  put-own-reads.Learnt,
-  field-reads.Asked,
-  field-reads.Learnt,
-  put-bytes-reads.Asked,
-  put-bytes-reads.Learnt,
-  print-refs-below t,
-  print-refs.Post,
-  put-byte-reads.Asked,
-  put-byte-reads.Learnt,
-) (print-cell-at t) print-cell.Post
-print-cell-returns-2 t c =
-    let s = c .before .before .before .before .before .before .before .before .before .before .before .before .before .before .before .before .before .before .before .before .before .before .before in
-    let T = s .args .table .now in
-    let D = s .args .bytes .now in
-    let n = s .args .n in
-    let ok : RecordOk T n = s .pre .1 .0 n (omega arith) .ok in
-    let k : 0 < getD T (n * 7 + 2) 0 = rw (c .before .before .before .before .before .before .before .before .before .before .before .before .before .before .before .field .ensures) at (pos-of-ne-zero (c .before .before .before .before .before .before .before .before .before .before .before .before .before .before .if1 .left)) in
-    let l = node-length T D n ok k in
-    let o = c .before .before .before .before .before .before .before .before .before .before .before .before .before .before .before .before .before .before .put-own in
-    let w = c .before .before .before .before .before .before .before .before .before .before .before .put-bytes in
-    let p = c .before .before .before .before .before .before .before .print-refs in
-    let z = c .before .before .before .put-byte in (
-      omega (arith, l, o .ensures .0, w .ensures .0, p .ensures .0, z .ensures .0),
-      (
-        omega (arith, size-eq T D n ok, p .ensures .1 .0),
-        node-put T D n ok (s .args .at) (o .result) (w .result) (p .result .next) (s .args .out .now) (o .last .1 .1 .0) (w .last .1 .0) (p .last .1 .1 .0) (z .last .0)
-            k (o .ensures .1) (o .ensures .0) (w .ensures .1) (w .ensures .0) (p .ensures .1 .1) (p .ensures .0) (z .ensures .1),
-      ),
-    )
-
-print-refs-add-field : (t : ℕ) → print-refs-lts.Need-add-field (
-  field-reads.Asked,
-  field-reads.Learnt,
-  print-cell-below t,
-  print-cell.Post,
-  put-bytes-reads.Asked,
-  put-bytes-reads.Learnt,
-  print-refs-below t,
-  print-refs.Post,
-) (print-refs-at t) print-refs.Post
-print-refs-add-field t c =
-    let s = c .before .before .before in
-    let T = s .args .table .now in
-    let D = s .args .bytes .now in
-    let n = s .args .n in
-    let ok : RecordOk T n = s .pre .1 .0 n (omega arith) .ok in
-    let j = s .args .j in
-    let h : j < getD T (n * 7 + 2) 0 = s .pre .1 .1 .0 in
-    omega (arith, ok .few)
-
-print-refs-field-requires : (t : ℕ) → print-refs-lts.Need-field-requires (
-  field-reads.Asked,
-  field-reads.Learnt,
-  print-cell-below t,
-  print-cell.Post,
-  put-bytes-reads.Asked,
-  put-bytes-reads.Learnt,
-  print-refs-below t,
-  print-refs.Post,
-) (print-refs-at t) print-refs.Post
-print-refs-field-requires t c κs =
-    let s = c .before .before .before in
-    let T = s .args .table .now in
-    let D = s .args .bytes .now in
-    let n = s .args .n in
-    let ok : RecordOk T n = s .pre .1 .0 n (omega arith) .ok in
-    let j = s .args .j in
-    let h : j < getD T (n * 7 + 2) 0 = s .pre .1 .1 .0 in
-    (ok .room, omega (arith, ok .few))
-
-print-refs-print-cell-requires : (t : ℕ) → print-refs-lts.Need-print-cell-requires (
-  field-reads.Asked,
-  field-reads.Learnt,
-  print-cell-below t,
-  print-cell.Post,
-  put-bytes-reads.Asked,
-  put-bytes-reads.Learnt,
-  print-refs-below t,
-  print-refs.Post,
-) (print-refs-at t) print-refs.Post
-print-refs-print-cell-requires t c κs =
-    let s = c .before .before .before .before .before in
-    let T = s .args .table .now in
-    let D = s .args .bytes .now in
-    let n = s .args .n in
-    let ok : RecordOk T n = s .pre .1 .0 n (omega arith) .ok in
-    let j = s .args .j in
-    let h : j < getD T (n * 7 + 2) 0 = s .pre .1 .1 .0 in
-    let r = c .before .field .result in
-    let e = c .before .field .ensures in
-    let back = ok .back j h in
-    (omega (arith, s .pre .0, e, back), (cells-down T D n r (s .pre .1 .0) (omega (arith, e, back)), omega (arith, first-le T D n ok j h r e, s .pre .1 .1 .1)))
-
-print-refs-field-requires-2 : (t : ℕ) → print-refs-lts.Need-field-requires-2 (
-  field-reads.Asked,
-  field-reads.Learnt,
-  print-cell-below t,
-  print-cell.Post,
-  put-bytes-reads.Asked,
-  put-bytes-reads.Learnt,
-  print-refs-below t,
-  print-refs.Post,
-) (print-refs-at t) print-refs.Post
-print-refs-field-requires-2 t c κs =
-    let s = c .before .before .before .before .before .before .before .before in
-    let T = s .args .table .now in
-    let D = s .args .bytes .now in
-    let n = s .args .n in
-    let ok : RecordOk T n = s .pre .1 .0 n (omega arith) .ok in
-    let j = s .args .j in
-    let h : j < getD T (n * 7 + 2) 0 = s .pre .1 .1 .0 in
-    (ok .room, omega arith)
-
-print-refs-add-if1 : (t : ℕ) → print-refs-lts.Need-add-if1 (
-  field-reads.Asked,
-  field-reads.Learnt,
-  print-cell-below t,
-  print-cell.Post,
-  put-bytes-reads.Asked,
-  put-bytes-reads.Learnt,
-  print-refs-below t,
-  print-refs.Post,
-) (print-refs-at t) print-refs.Post
-print-refs-add-if1 t c =
-    let s = c .before .before .before .before .before .before .before .before .before in
-    let T = s .args .table .now in
-    let D = s .args .bytes .now in
-    let n = s .args .n in
-    let ok : RecordOk T n = s .pre .1 .0 n (omega arith) .ok in
-    let j = s .args .j in
-    let h : j < getD T (n * 7 + 2) 0 = s .pre .1 .1 .0 in
-    omega (arith, ok .few)
-
-print-refs-same-length : (t : ℕ) → print-refs-lts.Need-same-length (
-  field-reads.Asked,
-  field-reads.Learnt,
-  print-cell-below t,
-  print-cell.Post,
-  put-bytes-reads.Asked,
-  put-bytes-reads.Learnt,
-  print-refs-below t,
-  print-refs.Post,
-) (print-refs-at t) print-refs.Post
-print-refs-same-length t c = c .before .before .before .before .print-cell .kept .1 .1 .0
-
-print-refs-returns : (t : ℕ) → print-refs-lts.Need-returns (
-  field-reads.Asked,
-  field-reads.Learnt,
-  print-cell-below t,
-  print-cell.Post,
-  put-bytes-reads.Asked,
-  put-bytes-reads.Learnt,
-  print-refs-below t,
-  print-refs.Post,
-) (print-refs-at t) print-refs.Post
-print-refs-returns t c =
-    let s = c .before .before .before .before .before .before .before .before .before .before in
-    let T = s .args .table .now in
-    let D = s .args .bytes .now in
-    let n = s .args .n in
-    let ok : RecordOk T n = s .pre .1 .0 n (omega arith) .ok in
-    let j = s .args .j in
-    let h : j < getD T (n * 7 + 2) 0 = s .pre .1 .1 .0 in
-    let r = c .before .before .before .before .before .before .field .result in
-    let e = c .before .before .before .before .before .before .field .ensures in
-    let k : getD T (n * 7 + 2) 0 ≤ j + 1 = omega (arith, c .before .field2 .ensures, c .if1 .taken) in
-    let q = text-last T D n ok j h r e k in
-    let p = c .before .before .before .before .print-cell in
-    (rw q (p .ensures .0), (rw (size-last T D n ok j h r e k) (p .ensures .1 .0), rw q (p .ensures .1 .1)))
-
-print-refs-slice-aggregate-put-bytes : (t : ℕ) → print-refs-lts.Need-slice-aggregate-put-bytes (
-  field-reads.Asked,
-  field-reads.Learnt,
-  print-cell-below t,
-  print-cell.Post,
-  put-bytes-reads.Asked,
-  put-bytes-reads.Learnt,
-  print-refs-below t,
-  print-refs.Post,
-) (print-refs-at t) print-refs.Post
-print-refs-slice-aggregate-put-bytes t c = search needs
-
-print-refs-put-bytes-requires : (t : ℕ) → print-refs-lts.Need-put-bytes-requires (
-  field-reads.Asked,
-  field-reads.Learnt,
-  print-cell-below t,
-  print-cell.Post,
-  put-bytes-reads.Asked,
-  put-bytes-reads.Learnt,
-  print-refs-below t,
-  print-refs.Post,
-) (print-refs-at t) print-refs.Post
-print-refs-put-bytes-requires t c κs =
-    let s = c .before .before .before .before .before .before .before .before .before .before .before .before in
-    let T = s .args .table .now in
-    let D = s .args .bytes .now in
-    let n = s .args .n in
-    let ok : RecordOk T n = s .pre .1 .0 n (omega arith) .ok in
-    let j = s .args .j in
-    let h : j < getD T (n * 7 + 2) 0 = s .pre .1 .1 .0 in
-    let r = c .before .before .before .before .before .before .before .before .field .result in
-    let e = c .before .before .before .before .before .before .before .before .field .ensures in
-    let k : j + 1 < getD T (n * 7 + 2) 0 = omega (arith, c .before .before .before .field2 .ensures, c .before .before .if1 .left) in
-    let l = more-length T D n ok j h r e k in
-    let p = c .before .before .before .before .before .before .print-cell in
-    omega (arith, l, s .pre .1 .1 .1, p .ensures .0, p .kept .1 .1 .0)
-
-print-refs-add-print-refs : (t : ℕ) → print-refs-lts.Need-add-print-refs (
-  field-reads.Asked,
-  field-reads.Learnt,
-  print-cell-below t,
-  print-cell.Post,
-  put-bytes-reads.Asked,
-  put-bytes-reads.Learnt,
-  print-refs-below t,
-  print-refs.Post,
-) (print-refs-at t) print-refs.Post
-print-refs-add-print-refs t c =
-    let s = c .before .before .before .before .before .before .before .before .before .before .before .before .before .before .before .before in
-    let T = s .args .table .now in
-    let D = s .args .bytes .now in
-    let n = s .args .n in
-    let ok : RecordOk T n = s .pre .1 .0 n (omega arith) .ok in
-    let j = s .args .j in
-    let h : j < getD T (n * 7 + 2) 0 = s .pre .1 .1 .0 in
-    omega (arith, ok .few)
-
-print-refs-print-refs-requires : (t : ℕ) → print-refs-lts.Need-print-refs-requires (
-  field-reads.Asked,
-  field-reads.Learnt,
-  print-cell-below t,
-  print-cell.Post,
-  put-bytes-reads.Asked,
-  put-bytes-reads.Learnt,
-  print-refs-below t,
-  print-refs.Post,
-) (print-refs-at t) print-refs.Post
-print-refs-print-refs-requires t c κs =
-    let s = c .before .before .before .before .before .before .before .before .before .before .before .before .before .before .before .before in
-    let T = s .args .table .now in
-    let D = s .args .bytes .now in
-    let n = s .args .n in
-    let ok : RecordOk T n = s .pre .1 .0 n (omega arith) .ok in
-    let j = s .args .j in
-    let h : j < getD T (n * 7 + 2) 0 = s .pre .1 .1 .0 in
-    let r = c .before .before .before .before .before .before .before .before .before .before .before .before .field .result in
-    let e = c .before .before .before .before .before .before .before .before .before .before .before .before .field .ensures in
-    let k : j + 1 < getD T (n * 7 + 2) 0 = omega (arith, c .before .before .before .before .before .before .before .field2 .ensures, c .before .before .before .before .before .before .if1 .left) in
-    let l = more-length T D n ok j h r e k in
-    let p = c .before .before .before .before .before .before .before .before .before .before .print-cell in
-    let w = c .before .before .before .put-bytes in
-    (omega (arith, s .pre .0, ok .few), (s .pre .1 .0, (k, omega (arith, l, s .pre .1 .1 .1, p .ensures .0, p .kept .1 .1 .0, w .ensures .0, w .kept .1 .0))))
-
-print-refs-add-t14 : (t : ℕ) → print-refs-lts.Need-add-t14 (
-  field-reads.Asked,
-  field-reads.Learnt,
-  print-cell-below t,
-  print-cell.Post,
-  put-bytes-reads.Asked,
-  put-bytes-reads.Learnt,
-  print-refs-below t,
-  print-refs.Post,
-) (print-refs-at t) print-refs.Post
-print-refs-add-t14 t c =
-    let s = c .before .before .before .before .before .before .before .before .before .before .before .before .before .before .before .before .before .before .before .before .before in
-    let T = s .args .table .now in
-    let D = s .args .bytes .now in
-    let n = s .args .n in
-    let ok : RecordOk T n = s .pre .1 .0 n (omega arith) .ok in
-    let j = s .args .j in
-    let h : j < getD T (n * 7 + 2) 0 = s .pre .1 .1 .0 in
-    let r = c .before .before .before .before .before .before .before .before .before .before .before .before .before .before .before .before .before .field .result in
-    let e = c .before .before .before .before .before .before .before .before .before .before .before .before .before .before .before .before .before .field .ensures in
-    let p = c .before .before .before .before .before .before .before .before .before .before .before .before .before .before .before .print-cell in
-    let q = c .before .before .before .before .print-refs in
-    omega (arith, sizes-le (cellAt T D) (drop j (refsAt T n)), size-more T D n ok j h r e, s .pre .1 .1 .1, s .good .1 .1 .0, p .ensures .1 .0, q .ensures .1 .0)
-
-print-refs-same-length-2 : (t : ℕ) → print-refs-lts.Need-same-length-2 (
-  field-reads.Asked,
-  field-reads.Learnt,
-  print-cell-below t,
-  print-cell.Post,
-  put-bytes-reads.Asked,
-  put-bytes-reads.Learnt,
-  print-refs-below t,
-  print-refs.Post,
-) (print-refs-at t) print-refs.Post
-print-refs-same-length-2 t c = c .before .before .before .before .print-refs .kept .1 .1 .0 ∙ c .before .before .before .before .before .before .before .before .put-bytes .kept .1 .0 ∙ c .before .before .before .before .before .before .before .before .before .before .before .before .before .before .before .print-cell .kept .1 .1 .0
-
-print-refs-returns-2 : (t : ℕ) → print-refs-lts.Need-returns-2 (
-  field-reads.Asked,
-  field-reads.Learnt,
-  print-cell-below t,
-  print-cell.Post,
-  put-bytes-reads.Asked,
-  put-bytes-reads.Learnt,
-  print-refs-below t,
-  print-refs.Post,
-) (print-refs-at t) print-refs.Post
-print-refs-returns-2 t c =
-    let s = c .before .before .before .before .before .before .before .before .before .before .before .before .before .before .before .before .before .before .before .before .before in
-    let T = s .args .table .now in
-    let D = s .args .bytes .now in
-    let n = s .args .n in
-    let ok : RecordOk T n = s .pre .1 .0 n (omega arith) .ok in
-    let j = s .args .j in
-    let h : j < getD T (n * 7 + 2) 0 = s .pre .1 .1 .0 in
-    let r = c .before .before .before .before .before .before .before .before .before .before .before .before .before .before .before .before .before .field .result in
-    let e = c .before .before .before .before .before .before .before .before .before .before .before .before .before .before .before .before .before .field .ensures in
-    let k : j + 1 < getD T (n * 7 + 2) 0 = omega (arith, c .before .before .before .before .before .before .before .before .before .before .before .before .field2 .ensures, c .before .before .before .before .before .before .before .before .before .before .before .if1 .left) in
-    let l = more-length T D n ok j h r e k in
-    let p = c .before .before .before .before .before .before .before .before .before .before .before .before .before .before .before .print-cell in
-    let w = c .before .before .before .before .before .before .before .before .put-bytes in
-    let q = c .before .before .before .before .print-refs in (
-      omega (arith, l, p .ensures .0, w .ensures .0, q .ensures .0),
-      (
-        omega (arith, size-more T D n ok j h r e, p .ensures .1 .0, q .ensures .1 .0),
-        more-put T D n ok j h r e (s .args .at) (p .result .next) (w .result) (s .args .out .now) (p .last .1 .1 .0) (w .last .1 .0) (q .last .1 .1 .0)
-            k (p .ensures .1 .1) (p .ensures .0) (w .ensures .1) (w .ensures .0) (q .ensures .1 .1),
-      ),
-    )
-
-pub +print-cell+print-refs-spec : {M : Type 1} → statement M
-+print-cell+print-refs-spec = close μ-print-cell μ-print-refs (λ t. print-cell-lts.spec (
+-- what the calls of each ask and give
+abbrev cell-calls : ℕ → print-cell-lts.Claims
+cell-calls t = (
   put-own-reads.Asked,
   put-own-reads.Learnt,
   field-reads.Asked,
@@ -580,8 +59,356 @@ pub +print-cell+print-refs-spec : {M : Type 1} → statement M
   put-byte-reads.Asked,
   put-byte-reads.Learnt,
 )
-    (print-cell-at t)
-    print-cell.Post
+
+abbrev refs-calls : ℕ → print-refs-lts.Claims
+refs-calls t = (
+  field-reads.Asked,
+  field-reads.Learnt,
+  print-cell-below t,
+  print-cell.Post,
+  put-bytes-reads.Asked,
+  put-bytes-reads.Learnt,
+  print-refs-below t,
+  print-refs.Post,
+)
+
+-- ---- print_cell
+
+module _ (t : ℕ) where
+  -- the points of the walk over a cell, by what came last
+  abbrev Cell-start : Type 0
+  Cell-start = print-cell-lts.Start (cell-calls t) (print-cell-at t) print-cell.Post
+
+  abbrev Cell-own : Type 0
+  Cell-own = print-cell-lts.After-put-own (cell-calls t) (print-cell-at t) print-cell.Post
+
+  abbrev Cell-count : Type 0
+  Cell-count = print-cell-lts.After-field (cell-calls t) (print-cell-at t) print-cell.Post
+
+  abbrev Cell-node : Type 0
+  Cell-node = print-cell-lts.Else1 (cell-calls t) (print-cell-at t) print-cell.Post
+
+  abbrev Cell-arrow : Type 0
+  Cell-arrow = print-cell-lts.After-put-bytes (cell-calls t) (print-cell-at t) print-cell.Post
+
+  abbrev Cell-refs : Type 0
+  Cell-refs = print-cell-lts.After-print-refs (cell-calls t) (print-cell-at t) print-cell.Post
+
+  abbrev Cell-end : Type 0
+  Cell-end = print-cell-lts.After-put-byte (cell-calls t) (print-cell-at t) print-cell.Post
+
+  cell-ok : (s : Cell-start) → RecordOk (s .args .table .now) (s .args .n)
+  cell-ok s = s .pre .1 .0 (s .args .n) (omega arith) .ok
+
+  print-cell-sub-rest : print-cell-lts.Need-sub-rest (cell-calls t) (print-cell-at t) print-cell.Post
+  print-cell-sub-rest c =
+      let s : Cell-start = search needs in
+      omega (arith, size-eq (s .args .table .now) (s .args .bytes .now) (s .args .n) (cell-ok s), s .pre .1 .1 .1)
+
+  print-cell-put-own-requires : print-cell-lts.Need-put-own-requires (cell-calls t) (print-cell-at t) print-cell.Post
+  print-cell-put-own-requires c κs =
+      let s : Cell-start = search needs in
+      (s .pre .1 .0 (s .args .n) (omega arith), omega (arith, own-le (s .args .table .now) (s .args .bytes .now) (s .args .n) (cell-ok s), s .pre .1 .1 .0))
+
+  print-cell-field-requires : print-cell-lts.Need-field-requires (cell-calls t) (print-cell-at t) print-cell.Post
+  print-cell-field-requires c κs =
+      let s : Cell-start = search needs in
+      (cell-ok s .room, omega arith)
+
+  print-cell-same-length : print-cell-lts.Need-same-length (cell-calls t) (print-cell-at t) print-cell.Post
+  print-cell-same-length c =
+      let at-own : Cell-own = search needs in
+      at-own .put-own .kept .1 .1 .0
+
+  print-cell-returns : print-cell-lts.Need-returns (cell-calls t) (print-cell-at t) print-cell.Post
+  print-cell-returns c =
+      let at-count : Cell-count = search needs in
+      let at-own : Cell-own = search needs in
+      let s : Cell-start = search needs in
+      let T = s .args .table .now in
+      let D = s .args .bytes .now in
+      let n = s .args .n in
+      let k : getD T (n * 7 + 2) 0 ≡ 0 = omega (arith, at-count .field .ensures, c .if1 .taken) in
+      let e = text-leaf T D n (cell-ok s) k in
+      let o = at-own .put-own in
+      (rw e (o .ensures .0), (omega (arith, size-eq T D n (cell-ok s), size-leaf T D n (cell-ok s) k), rw e (o .ensures .1)))
+
+  print-cell-slice-aggregate-put-bytes : print-cell-lts.Need-slice-aggregate-put-bytes (cell-calls t) (print-cell-at t) print-cell.Post
+  print-cell-slice-aggregate-put-bytes c = search needs
+
+  print-cell-put-bytes-requires : print-cell-lts.Need-put-bytes-requires (cell-calls t) (print-cell-at t) print-cell.Post
+  print-cell-put-bytes-requires c κs =
+      let at-node : Cell-node = search needs in
+      let at-own : Cell-own = search needs in
+      let s : Cell-start = search needs in
+      let T = s .args .table .now in
+      let D = s .args .bytes .now in
+      let n = s .args .n in
+      let k = some-refs T n _ (at-node .before .field .ensures) (at-node .if1 .left) in
+      let l = node-length T D n (cell-ok s) k in
+      let o = at-own .put-own in
+      omega (arith, l, s .pre .1 .1 .0, o .ensures .0, o .kept .1 .1 .0)
+
+  print-cell-print-refs-requires : print-cell-lts.Need-print-refs-requires (cell-calls t) (print-cell-at t) print-cell.Post
+  print-cell-print-refs-requires c κs =
+      let at-arrow : Cell-arrow = search needs in
+      let at-node : Cell-node = search needs in
+      let at-own : Cell-own = search needs in
+      let s : Cell-start = search needs in
+      let T = s .args .table .now in
+      let D = s .args .bytes .now in
+      let n = s .args .n in
+      let k = some-refs T n _ (at-node .before .field .ensures) (at-node .if1 .left) in
+      let l = node-length T D n (cell-ok s) k in
+      let o = at-own .put-own in
+      let w = at-arrow .put-bytes in (
+        omega (arith, s .pre .0),
+        (
+          s .pre .1 .0,
+          (
+            k,
+            (
+              omega (arith, l, s .pre .1 .1 .0, o .ensures .0, o .kept .1 .1 .0, w .ensures .0, w .kept .1 .0),
+              omega (arith, size-eq T D n (cell-ok s), s .pre .1 .1 .1),
+            ),
+          ),
+        ),
+      )
+
+  print-cell-put-byte-requires : print-cell-lts.Need-put-byte-requires (cell-calls t) (print-cell-at t) print-cell.Post
+  print-cell-put-byte-requires c κs =
+      let at-refs : Cell-refs = search needs in
+      let at-arrow : Cell-arrow = search needs in
+      let at-node : Cell-node = search needs in
+      let at-own : Cell-own = search needs in
+      let s : Cell-start = search needs in
+      let T = s .args .table .now in
+      let D = s .args .bytes .now in
+      let n = s .args .n in
+      let k = some-refs T n _ (at-node .before .field .ensures) (at-node .if1 .left) in
+      let l = node-length T D n (cell-ok s) k in
+      let o = at-own .put-own in
+      let w = at-arrow .put-bytes in
+      let p = at-refs .print-refs in
+      omega (arith, l, s .pre .1 .1 .0, o .ensures .0, o .kept .1 .1 .0, w .ensures .0, w .kept .1 .0, p .ensures .0, p .kept .1 .1 .0)
+
+  print-cell-same-length-2 : print-cell-lts.Need-same-length-2 (cell-calls t) (print-cell-at t) print-cell.Post
+  print-cell-same-length-2 c =
+      let at-end : Cell-end = search needs in
+      let at-refs : Cell-refs = search needs in
+      let at-arrow : Cell-arrow = search needs in
+      let at-own : Cell-own = search needs in
+      at-end .put-byte .kept .0 ∙ at-refs .print-refs .kept .1 .1 .0 ∙ at-arrow .put-bytes .kept .1 .0 ∙ at-own .put-own .kept .1 .1 .0
+
+  print-cell-returns-2 : print-cell-lts.Need-returns-2 (cell-calls t) (print-cell-at t) print-cell.Post
+  print-cell-returns-2 c =
+      let at-end : Cell-end = search needs in
+      let at-refs : Cell-refs = search needs in
+      let at-arrow : Cell-arrow = search needs in
+      let at-node : Cell-node = search needs in
+      let at-own : Cell-own = search needs in
+      let s : Cell-start = search needs in
+      let T = s .args .table .now in
+      let D = s .args .bytes .now in
+      let n = s .args .n in
+      let k = some-refs T n _ (at-node .before .field .ensures) (at-node .if1 .left) in
+      let o = at-own .put-own in
+      let w = at-arrow .put-bytes in
+      let p = at-refs .print-refs in
+      let z = at-end .put-byte in (
+        omega (arith, node-length T D n (cell-ok s) k, o .ensures .0, w .ensures .0, p .ensures .0, z .ensures .0),
+        (
+          omega (arith, size-eq T D n (cell-ok s), p .ensures .1 .0),
+          node-put T D n (cell-ok s) (s .args .at) (o .result) (w .result) (p .result .next)
+              (s .args .out .now) (o .last .1 .1 .0) (w .last .1 .0) (p .last .1 .1 .0) (z .last .0)
+              k (o .ensures .1) (o .ensures .0) (w .ensures .1) (w .ensures .0) (p .ensures .1 .1) (p .ensures .0) (z .ensures .1),
+        ),
+      )
+
+-- ---- print_refs
+
+module _ (t : ℕ) where
+  -- the points of the walk over references, by what came last
+  abbrev Refs-start : Type 0
+  Refs-start = print-refs-lts.Start (refs-calls t) (print-refs-at t) print-refs.Post
+
+  abbrev Refs-number : Type 0
+  Refs-number = print-refs-lts.After-field (refs-calls t) (print-refs-at t) print-refs.Post
+
+  abbrev Refs-cell : Type 0
+  Refs-cell = print-refs-lts.After-print-cell (refs-calls t) (print-refs-at t) print-refs.Post
+
+  abbrev Refs-more : Type 0
+  Refs-more = print-refs-lts.Else1 (refs-calls t) (print-refs-at t) print-refs.Post
+
+  abbrev Refs-comma : Type 0
+  Refs-comma = print-refs-lts.After-put-bytes (refs-calls t) (print-refs-at t) print-refs.Post
+
+  abbrev Refs-rest : Type 0
+  Refs-rest = print-refs-lts.After-print-refs (refs-calls t) (print-refs-at t) print-refs.Post
+
+  refs-ok : (s : Refs-start) → RecordOk (s .args .table .now) (s .args .n)
+  refs-ok s = s .pre .1 .0 (s .args .n) (omega arith) .ok
+
+  print-refs-add-field : print-refs-lts.Need-add-field (refs-calls t) (print-refs-at t) print-refs.Post
+  print-refs-add-field c =
+      let s : Refs-start = search needs in
+      omega (arith, s .pre .1 .1 .0, refs-ok s .few)
+
+  print-refs-field-requires : print-refs-lts.Need-field-requires (refs-calls t) (print-refs-at t) print-refs.Post
+  print-refs-field-requires c κs =
+      let s : Refs-start = search needs in
+      (refs-ok s .room, omega (arith, s .pre .1 .1 .0, refs-ok s .few))
+
+  print-refs-print-cell-requires : print-refs-lts.Need-print-cell-requires (refs-calls t) (print-refs-at t) print-refs.Post
+  print-refs-print-cell-requires c κs =
+      let s : Refs-start = search needs in
+      let T = s .args .table .now in
+      let D = s .args .bytes .now in
+      let n = s .args .n in
+      let j = s .args .j in
+      let h = s .pre .1 .1 .0 in
+      let f = c .before .field in
+      let e = f .ensures in
+      let back = refs-ok s .back j h in (
+        omega (arith, s .pre .0, e, back),
+        (
+          cells-down T D n (f .result) (s .pre .1 .0) (omega (arith, e, back)),
+          (
+            omega (arith, first-le T D n (refs-ok s) j h (f .result) e, s .pre .1 .1 .1 .0),
+            omega (arith, size-more T D n (refs-ok s) j h (f .result) e, s .pre .1 .1 .1 .1),
+          ),
+        ),
+      )
+
+  print-refs-field-requires-2 : print-refs-lts.Need-field-requires-2 (refs-calls t) (print-refs-at t) print-refs.Post
+  print-refs-field-requires-2 c κs =
+      let s : Refs-start = search needs in
+      (refs-ok s .room, omega arith)
+
+  print-refs-add-if1 : print-refs-lts.Need-add-if1 (refs-calls t) (print-refs-at t) print-refs.Post
+  print-refs-add-if1 c =
+      let s : Refs-start = search needs in
+      omega (arith, s .pre .1 .1 .0, refs-ok s .few)
+
+  print-refs-same-length : print-refs-lts.Need-same-length (refs-calls t) (print-refs-at t) print-refs.Post
+  print-refs-same-length c =
+      let at-cell : Refs-cell = search needs in
+      at-cell .print-cell .kept .1 .1 .0
+
+  print-refs-returns : print-refs-lts.Need-returns (refs-calls t) (print-refs-at t) print-refs.Post
+  print-refs-returns c =
+      let at-cell : Refs-cell = search needs in
+      let at-number : Refs-number = search needs in
+      let s : Refs-start = search needs in
+      let T = s .args .table .now in
+      let D = s .args .bytes .now in
+      let n = s .args .n in
+      let j = s .args .j in
+      let h = s .pre .1 .1 .0 in
+      let f = at-number .field in
+      let p = at-cell .print-cell in
+      let k : getD T (n * 7 + 2) 0 ≤ j + 1 = omega (arith, c .before .field2 .ensures, c .if1 .taken) in
+      let q = text-last T D n (refs-ok s) j h (f .result) (f .ensures) k in
+      (rw q (p .ensures .0), (rw (size-last T D n (refs-ok s) j h (f .result) (f .ensures) k) (p .ensures .1 .0), rw q (p .ensures .1 .1)))
+
+  print-refs-slice-aggregate-put-bytes : print-refs-lts.Need-slice-aggregate-put-bytes (refs-calls t) (print-refs-at t) print-refs.Post
+  print-refs-slice-aggregate-put-bytes c = search needs
+
+  print-refs-put-bytes-requires : print-refs-lts.Need-put-bytes-requires (refs-calls t) (print-refs-at t) print-refs.Post
+  print-refs-put-bytes-requires c κs =
+      let at-more : Refs-more = search needs in
+      let at-cell : Refs-cell = search needs in
+      let at-number : Refs-number = search needs in
+      let s : Refs-start = search needs in
+      let T = s .args .table .now in
+      let D = s .args .bytes .now in
+      let n = s .args .n in
+      let j = s .args .j in
+      let h = s .pre .1 .1 .0 in
+      let f = at-number .field in
+      let p = at-cell .print-cell in
+      let k : j + 1 < getD T (n * 7 + 2) 0 = omega (arith, at-more .before .field2 .ensures, at-more .if1 .left) in
+      let l = more-length T D n (refs-ok s) j h (f .result) (f .ensures) k in
+      omega (arith, l, s .pre .1 .1 .1 .0, p .ensures .0, p .kept .1 .1 .0)
+
+  print-refs-add-print-refs : print-refs-lts.Need-add-print-refs (refs-calls t) (print-refs-at t) print-refs.Post
+  print-refs-add-print-refs c =
+      let s : Refs-start = search needs in
+      omega (arith, s .pre .1 .1 .0, refs-ok s .few)
+
+  print-refs-print-refs-requires : print-refs-lts.Need-print-refs-requires (refs-calls t) (print-refs-at t) print-refs.Post
+  print-refs-print-refs-requires c κs =
+      let at-comma : Refs-comma = search needs in
+      let at-more : Refs-more = search needs in
+      let at-cell : Refs-cell = search needs in
+      let at-number : Refs-number = search needs in
+      let s : Refs-start = search needs in
+      let T = s .args .table .now in
+      let D = s .args .bytes .now in
+      let n = s .args .n in
+      let j = s .args .j in
+      let h = s .pre .1 .1 .0 in
+      let f = at-number .field in
+      let p = at-cell .print-cell in
+      let w = at-comma .put-bytes in
+      let k : j + 1 < getD T (n * 7 + 2) 0 = omega (arith, at-more .before .field2 .ensures, at-more .if1 .left) in
+      let l = more-length T D n (refs-ok s) j h (f .result) (f .ensures) k in (
+        omega (arith, s .pre .0, h, refs-ok s .few),
+        (
+          s .pre .1 .0,
+          (
+            k,
+            (
+              omega (arith, l, s .pre .1 .1 .1 .0, p .ensures .0, p .kept .1 .1 .0, w .ensures .0, w .kept .1 .0),
+              omega (arith, size-more T D n (refs-ok s) j h (f .result) (f .ensures), s .pre .1 .1 .1 .1, p .ensures .1 .0),
+            ),
+          ),
+        ),
+      )
+
+  print-refs-same-length-2 : print-refs-lts.Need-same-length-2 (refs-calls t) (print-refs-at t) print-refs.Post
+  print-refs-same-length-2 c =
+      let at-rest : Refs-rest = search needs in
+      let at-comma : Refs-comma = search needs in
+      let at-cell : Refs-cell = search needs in
+      at-rest .print-refs .kept .1 .1 .0 ∙ at-comma .put-bytes .kept .1 .0 ∙ at-cell .print-cell .kept .1 .1 .0
+
+  print-refs-returns-2 : print-refs-lts.Need-returns-2 (refs-calls t) (print-refs-at t) print-refs.Post
+  print-refs-returns-2 c =
+      let at-rest : Refs-rest = search needs in
+      let at-comma : Refs-comma = search needs in
+      let at-more : Refs-more = search needs in
+      let at-cell : Refs-cell = search needs in
+      let at-number : Refs-number = search needs in
+      let s : Refs-start = search needs in
+      let T = s .args .table .now in
+      let D = s .args .bytes .now in
+      let n = s .args .n in
+      let j = s .args .j in
+      let h = s .pre .1 .1 .0 in
+      let f = at-number .field in
+      let p = at-cell .print-cell in
+      let w = at-comma .put-bytes in
+      let q = at-rest .print-refs in
+      let k : j + 1 < getD T (n * 7 + 2) 0 = omega (arith, at-more .before .field2 .ensures, at-more .if1 .left) in
+      let l = more-length T D n (refs-ok s) j h (f .result) (f .ensures) k in (
+        omega (arith, l, p .ensures .0, w .ensures .0, q .ensures .0),
+        (
+          omega (arith, size-more T D n (refs-ok s) j h (f .result) (f .ensures), p .ensures .1 .0, q .ensures .1 .0),
+          more-put T D n (refs-ok s) j h (f .result) (f .ensures) (s .args .at) (p .result .next) (w .result)
+              (s .args .out .now) (p .last .1 .1 .0) (w .last .1 .0) (q .last .1 .1 .0)
+              k (p .ensures .1 .1) (p .ensures .0) (w .ensures .1) (w .ensures .0) (q .ensures .1 .1),
+        ),
+      )
+
+-- ---- both
+
+pub +print-cell+print-refs-spec : {M : Type 1} → statement M
++print-cell+print-refs-spec =
+    close μ-print-cell μ-print-refs
+    (λ t. print-cell-lts.spec (cell-calls t) (print-cell-at t) print-cell.Post
+    (print-cell-sub-rest t)
     (print-cell-put-own-requires t)
     (print-cell-field-requires t)
     (print-cell-same-length t)
@@ -590,21 +417,9 @@ pub +print-cell+print-refs-spec : {M : Type 1} → statement M
     (print-cell-put-bytes-requires t)
     (print-cell-print-refs-requires t)
     (print-cell-put-byte-requires t)
-    (print-cell-add-t24 t)
     (print-cell-same-length-2 t)
     (print-cell-returns-2 t))
-    λ t. print-refs-lts.spec (
-      field-reads.Asked,
-      field-reads.Learnt,
-      print-cell-below t,
-      print-cell.Post,
-      put-bytes-reads.Asked,
-      put-bytes-reads.Learnt,
-      print-refs-below t,
-      print-refs.Post,
-    )
-    (print-refs-at t)
-    print-refs.Post
+    (λ t. print-refs-lts.spec (refs-calls t) (print-refs-at t) print-refs.Post
     (print-refs-add-field t)
     (print-refs-field-requires t)
     (print-refs-print-cell-requires t)
@@ -616,6 +431,5 @@ pub +print-cell+print-refs-spec : {M : Type 1} → statement M
     (print-refs-put-bytes-requires t)
     (print-refs-add-print-refs t)
     (print-refs-print-refs-requires t)
-    (print-refs-add-t14 t)
     (print-refs-same-length-2 t)
-    (print-refs-returns-2 t)
+    (print-refs-returns-2 t))
