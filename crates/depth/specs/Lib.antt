@@ -1,2 +1,3 @@
 pub mod Pruned
 pub mod Paper
+pub mod Unique
