@@ -27,3 +27,4 @@ pub mod Slices
 pub mod BitLaws
 pub mod Adding
 pub mod OneAnswer
+pub mod Numbers

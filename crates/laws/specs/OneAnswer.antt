@@ -8,3 +8,7 @@ one-answer paper apart a b p q = apart a b (p ∙ sym q)
 -- what a lent place holds
 pub one-content : {A : Type 0} {a b x : A} → a ≡ x → b ≡ x → a ≡ b
 one-content p q = p ∙ sym q
+
+-- an answer, and what a lent place holds afterwards
+pub one-pair : {A B : Type 0} {a b x : A} {c d y : B} → (a ≡ x) × (c ≡ y) → (b ≡ x) × (d ≡ y) → (a ≡ b) × (c ≡ d)
+one-pair p q = (one-content (p .0) (q .0), one-content (p .1) (q .1))

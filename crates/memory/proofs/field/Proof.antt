@@ -1,5 +1,8 @@
 -- `memory::field` meets its contract. Assumes nothing.
-use Prim.Native.Nat.{_+_, _*_}
+use Prim.Native.Nat.{ℕ}
+use mir.Syntax.{w64}
+use mir.Val.{Fits}
+use lib.ListN.{getD}
 use borrow.Author.Needs.{needs}
 use native.Mathlib.Omega.{arith}
 use Rattle.memory.proofs.field.Statement.{statement}
@@ -17,8 +20,12 @@ mul-result-2 c = search needs
 shared-slice-read-result : tie.Need-shared-slice-read-result
 shared-slice-read-result c = search needs
 
+-- a number of the table fits, wherever it stands
+fits : (d : tie.After-shared-slice-known) (j : ℕ) → Fits w64 (getD (d .before .args .table .now) j 0)
+fits d j = omega (arith, d .shared-slice-known .given j)
+
 cast-result : tie.Need-cast-result
-cast-result c = omega (arith, c .shared-slice-known .given (c .before .args .i * 7 + c .before .args .f))
+cast-result c = fits c _
 
 returns : tie.Need-returns
 returns c = search needs
