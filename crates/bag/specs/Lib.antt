@@ -5,3 +5,4 @@ pub mod Paper
 pub mod FieldUse
 pub mod Frames
 pub mod Open
+pub mod Unique

@@ -22,7 +22,7 @@ use Rattle.header.specs.declared.Header.{Header}
 use Rattle.bag.specs.Places.{cellsAt, places, scanned}
 use Rattle.bag.specs.Scan.{Seen, scan-seen, marks-front}
 use Rattle.bag.specs.Links.{extraOk}
-use Rattle.bag.specs.Paper.{opened, afterScan, AreCells, OpensCells, bagOf, paperOf, Kept, Opens}
+use Rattle.bag.specs.Paper.{opened, afterScan, AreCells, marks, openingCells, OpensCells, opening, marked, Opens, bagOf, paperOf, Kept}
 use Rattle.bag.specs.declared.OpenBag.{OpenBag}
 use Rattle.bag.specs.declared.BagAnswer.{BagAnswer}
 use Rattle.bag.specs.declared.BagAnswer.the-variants.{Open, Refused}
@@ -76,12 +76,14 @@ module _ (b : List ℕ) (size n p : ℕ) (s m : List ℕ) (is : m ≡ puts s 0 (
       λ k h. rw (← getD-take n m k 0 h) (S .whole k h)
 
 -- the two ends of a scan
-module _ (b : List ℕ) (whole : Bool) (h : Header) (s m : List ℕ) (is : m ≡ puts s 0 (places b (h .size) (h .cells) (h .first))) (room : h .cells ≤ length s) where
+module _ (b : List ℕ) (whole : Bool) (h : Header) (s m : List ℕ) (is : m ≡ puts s 0 (places b (h .size) (h .cells) (h .first))) where
   pub scan-stops : (r : Refusal) → scanned b (h .size) (h .cells) (h .first) ≡ bad r → OpensCells b whole h s (Refused r) m
-  scan-stops r e = record { answer = rw e; long = marks-long b (h .size) (h .cells) (h .first) s m is room; seen = marks-seen b (h .size) (h .cells) (h .first) s m is room }
+  unfolding openingCells marks
+  scan-stops r e = record { answer = rw e; scratch = is }
 
   pub scan-ends : (p : ℕ) (r : BagAnswer) → scanned b (h .size) (h .cells) (h .first) ≡ ok p → opened r ≡ afterScan b whole h m p → OpensCells b whole h s r m
-  scan-ends p r e a = record { answer = rw e a; long = marks-long b (h .size) (h .cells) (h .first) s m is room; seen = marks-seen b (h .size) (h .cells) (h .first) s m is room }
+  unfolding openingCells marks
+  scan-ends p r e a = record { answer = rw e (rw is at a); scratch = is }
 
 -- an answer as a bag
 paper-is : (b m : List ℕ) (r : BagAnswer) → paperOf b m r ≡ then (opened r) λ o. ok (bagOf b m o)
@@ -130,41 +132,97 @@ module _ (b : List ℕ) (whole : Bool) (h : Header) (m : List ℕ) where
       then-use (rootsOk 0 (h .cells) (numbersAt b (h .size) (h .roots) (h .list))) _ _ e₃ λ u₄ x₄ e₄.
       (used, cc)
 
+-- the two ways out of the header
 module _ (b : List ℕ) (whole : Bool) (rooms : ℕ) (s : List ℕ) where
   pub no-header : (r : Refusal) → headerAt b (length s) rooms ≡ bad r → Opens b whole rooms s (Refused r) s
-  no-header r e = record { answer = sym (bag-header whole (length s) rooms b ∙ rw e); long = refl; kept = λ o q. let z : _≡_ {A = ℕ} 0 1 = cc in absurd (omega arith) }
+  unfolding opening marked
+  no-header r e = record { answer = rw e; scratch = rw e }
 
-  module _ (h : Header) (e : headerAt b (length s) rooms ≡ ok h) (r : BagAnswer) (m : List ℕ) (O : OpensCells b whole h s r m) where
-    bag-is : bag whole (length s) rooms b ≡ afterHead whole b (h .size) (h .cells) (h .checked) (rootsIn b h) (h .first)
-    bag-is = bag-header whole (length s) rooms b ∙ rw e
+  pub opens : (h : Header) → headerAt b (length s) rooms ≡ ok h → (r : BagAnswer) (m : List ℕ) → OpensCells b whole h s r m → Opens b whole rooms s r m
+  unfolding opening marked
+  opens h e r m O = record { answer = rw e (O .answer); scratch = rw e (O .scratch) }
 
-    answer : paperOf b m r ≡ bag whole (length s) rooms b
+-- what an answer and a scratch that keep the promise come to
+module _ (b : List ℕ) (whole : Bool) (rooms : ℕ) (s : List ℕ) (r : BagAnswer) (m : List ℕ) (O : Opens b whole rooms s r m) where
+  -- after a header that is refused
+  module _ (q : Refusal) (e : headerAt b (length s) rooms ≡ bad q) where
+    none-scratch : m ≡ s
+    unfolding marked
+    none-scratch = O .scratch ∙ rw e
+
+    none-answer : opened r ≡ bad q
+    unfolding opening
+    none-answer = O .answer ∙ rw e
+
+  -- after a header h
+  module _ (h : Header) (e : headerAt b (length s) rooms ≡ ok h) where
+    is : m ≡ puts s 0 (places b (h .size) (h .cells) (h .first))
+    unfolding marked marks
+    is = O .scratch ∙ rw e
+
+    cells-answer : opened r ≡ then (scanned b (h .size) (h .cells) (h .first)) λ p. afterScan b whole h m p
+    unfolding opening openingCells marks
+    cells-answer = rw is (O .answer ∙ rw e)
+
+    room : h .cells ≤ length s
+    room = omega (arith, header-within b (length s) rooms h e .scratch-room)
+
+    long : length m ≡ length s
+    long = marks-long b (h .size) (h .cells) (h .first) s m is room
+
+    seen : (cs : Past (List Cell)) → rawCells b (h .size) (h .cells) (h .first) ≡ ok cs → Seen b (h .size) (h .cells) (take (h .cells) m) (cs .it)
+    seen = marks-seen b (h .size) (h .cells) (h .first) s m is room
+
+    answer : paperOf b m r ≡ afterHead whole b (h .size) (h .cells) (h .checked) (rootsIn b h) (h .first)
     unfolding scanned
-    answer = go (rawCells b (h .size) (h .cells) (h .first)) refl ∙ sym bag-is
+    answer = go (rawCells b (h .size) (h .cells) (h .first)) refl
       where
         go : (x : Res (Past (List Cell))) → rawCells b (h .size) (h .cells) (h .first) ≡ x → paperOf b m r ≡ afterHead whole b (h .size) (h .cells) (h .checked) (rootsIn b h) (h .first)
         go (bad y) q =
-            let a : opened r ≡ bad y = O .answer ∙ rw q in
+            let a : opened r ≡ bad y = cells-answer ∙ rw q in
             paper-is b m r ∙ rw (a, q)
         go (ok cs) q =
-            let a : opened r ≡ afterScan b whole h m (cs .next) = O .answer ∙ rw q in
-            paper-is b m r ∙ rw (a, q) (after-is b whole h m (cs .it) (cs .next) (O .seen cs q .cells))
+            let a : opened r ≡ afterScan b whole h m (cs .next) = cells-answer ∙ rw q in
+            paper-is b m r ∙ rw (a, q) (after-is b whole h m (cs .it) (cs .next) (seen cs q .cells))
 
     kept : (o : OpenBag) → r ≡ Open o → Kept b rooms m o
     kept o q =
-        then-use (scanned b (h .size) (h .cells) (h .first)) _ _ (sym (O .answer) ∙ ap opened q) λ p x₁ e₁.
+        then-use (scanned b (h .size) (h .cells) (h .first)) _ _ (sym cells-answer ∙ ap opened q) λ p x₁ e₁.
         let u = after-open b whole h m p o e₁ in
-        let c = scanned-inv b (h .size) (h .cells) (h .first) p x₁ in
         let w = header-within b (length s) rooms h e in
-        let S = O .seen (c .0) (c .1) in
         rw (u .1) (record {
           size = w .narrow;
           few = w .few;
-          scratch = rw (O .long) (w .scratch-room);
+          scratch = rw long (w .scratch-room);
           roots = w .root-room;
           list = omega (arith, w .list-end, w .inside);
-          cells = λ k g. rw (← getD-take (h .cells) m k 0 g) (S .whole k g);
+          cells = marks-cells b (h .size) (h .cells) (h .first) s m is room p x₁;
         })
 
-    pub opens : Opens b whole rooms s r m
-    opens = record { answer = answer; long = O .long; kept = kept }
+  -- the answer is the bag of the definitions
+  pub opens-bag : paperOf b m r ≡ bag whole (length s) rooms b
+  opens-bag = go (headerAt b (length s) rooms) refl
+    where
+      go : (x : Res Header) → headerAt b (length s) rooms ≡ x → paperOf b m r ≡ bag whole (length s) rooms b
+      go (bad q) e =
+          let a : bag whole (length s) rooms b ≡ bad q = bag-header whole (length s) rooms b ∙ rw e in
+          paper-is b m r ∙ rw (none-answer q e, a)
+      go (ok h) e = answer h e ∙ sym (bag-header whole (length s) rooms b ∙ rw e)
+
+  pub opens-long : length m ≡ length s
+  opens-long = go (headerAt b (length s) rooms) refl
+    where
+      go : (x : Res Header) → headerAt b (length s) rooms ≡ x → length m ≡ length s
+      go (bad q) e = ap length (none-scratch q e)
+      go (ok h) e = long h e
+
+  -- what is opened keeps to the limits, and its cells can be read
+  pub opens-kept : (o : OpenBag) → r ≡ Open o → Kept b rooms m o
+  opens-kept o z = go (headerAt b (length s) rooms) refl
+    where
+      go : (x : Res Header) → headerAt b (length s) rooms ≡ x → Kept b rooms m o
+      go (bad q) e =
+          let n : bad q ≡ ok o = sym (none-answer q e) ∙ ap opened z in
+          let y : _≡_ {A = ℕ} 0 1 = cc in
+          absurd (omega arith)
+      go (ok h) e = kept h e o z

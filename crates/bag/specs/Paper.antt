@@ -5,12 +5,12 @@ use mathlib.Core.Bool.{Bool}
 use mathlib.Core.List.{List}
 use lib.ListN.{length, take, getD}
 use Rattle.scheme.specs.Res.{Res, bad, ok, then}
-use Rattle.scheme.specs.Cells.{Cell}
-use Rattle.scheme.specs.Bag.{Past, rawCells, Bag, bag, checksum, links, rootsOk}
+use Rattle.scheme.specs.Bag.{Bag, checksum, links, rootsOk}
+use Rattle.laws.specs.Puts.{puts}
 use Rattle.bits.specs.Field.{numbersAt}
+use Rattle.header.specs.Header.{headerAt}
 use Rattle.header.specs.declared.Header.{Header}
-use Rattle.bag.specs.Places.{IsCell, cellsAt, scanned}
-use Rattle.bag.specs.Scan.{Seen}
+use Rattle.bag.specs.Places.{IsCell, cellsAt, places, scanned}
 use Rattle.bag.specs.Links.{extraOk}
 use Rattle.bag.specs.declared.Check.{Check}
 use Rattle.bag.specs.declared.Check.the-variants.{Passed, Refused as NotPassed}
@@ -39,11 +39,35 @@ afterScan b whole h m p =
 abbrev pub AreCells : List ℕ → ℕ → ℕ → List ℕ → Type 0
 AreCells b size cells m = (k : ℕ) → k < cells → IsCell b size (getD m k 0)
 
--- the cells and what follows them: the scratch was s and is m
+-- the scratch s with the places of the cells at its front, up to the first cell that is refused
+unfoldable pub marks : List ℕ → Header → List ℕ → List ℕ
+marks b h s = puts s 0 (places b (h .size) (h .cells) (h .first))
+
+-- the cells and what follows them
+unfoldable pub openingCells : List ℕ → Bool → Header → List ℕ → Res OpenBag
+openingCells b whole h s = then (scanned b (h .size) (h .cells) (h .first)) λ p. afterScan b whole h (marks b h s) p
+
+-- the same after the header: the scratch was s and is m
 pub record OpensCells (b : List ℕ) (whole : Bool) (h : Header) (s : List ℕ) (r : BagAnswer) (m : List ℕ) : Type 0 where
-  pub answer : opened r ≡ then (scanned b (h .size) (h .cells) (h .first)) λ p. afterScan b whole h m p
-  pub long : length m ≡ length s
-  pub seen : (cs : Past (List Cell)) → rawCells b (h .size) (h .cells) (h .first) ≡ ok cs → Seen b (h .size) (h .cells) (take (h .cells) m) (cs .it)
+  pub answer : opened r ≡ openingCells b whole h s
+  pub scratch : m ≡ marks b h s
+
+-- the answer, where `rooms` root places are lent and the scratch is s
+unfoldable pub opening : List ℕ → Bool → ℕ → List ℕ → Res OpenBag
+opening b whole rooms s = then (headerAt b (length s) rooms) λ h. openingCells b whole h s
+
+-- the scratch afterwards: as it was where the header is refused
+abbrev pub markedBy : List ℕ → List ℕ → Res Header → List ℕ
+markedBy b s (bad r) = s
+markedBy b s (ok h) = marks b h s
+
+unfoldable pub marked : List ℕ → ℕ → List ℕ → List ℕ
+marked b rooms s = markedBy b s (headerAt b (length s) rooms)
+
+-- what `open_bag` promises: the answer, and every entry of the scratch, which was s and is m. Open has what follows: `opens-bag`, `opens-long`, `opens-kept`
+pub record Opens (b : List ℕ) (whole : Bool) (rooms : ℕ) (s : List ℕ) (r : BagAnswer) (m : List ℕ) : Type 0 where
+  pub answer : opened r ≡ opening b whole rooms s
+  pub scratch : m ≡ marked b rooms s
 
 -- the bag that an answer says, where the scratch is m
 abbrev pub bagOf : List ℕ → List ℕ → OpenBag → Bag
@@ -61,9 +85,3 @@ pub record Kept (b : List ℕ) (rooms : ℕ) (m : List ℕ) (o : OpenBag) : Type
   pub roots : o .roots ≤ rooms
   pub list : o .list + o .roots * o .size ≤ length b
   pub cells : AreCells b (o .size) (o .cells) m
-
--- the scratch was s and is m
-pub record Opens (b : List ℕ) (whole : Bool) (rooms : ℕ) (s : List ℕ) (r : BagAnswer) (m : List ℕ) : Type 0 where
-  pub answer : paperOf b m r ≡ bag whole (length s) rooms b
-  pub long : length m ≡ length s
-  pub kept : (o : OpenBag) → r ≡ Open o → Kept b rooms m o

@@ -30,7 +30,7 @@ same-length c = search needs
 returns : tie.Need-returns
 returns c =
     let k = c .before .before .before .before .before in
-    scan-stops _ _ _ _ _ (k .scan-cells .ensures .1) (k .before .before .before .before .pre .0 .3) _ (sym (k .scan-cells .ensures .0) ∙ ap skipPaper (c .before .r .given .1))
+    scan-stops _ _ _ _ _ (k .scan-cells .ensures .1) _ (sym (k .scan-cells .ensures .0) ∙ ap skipPaper (c .before .r .given .1))
 
 same-length-2 : tie.Need-same-length-2
 same-length-2 c = search needs
@@ -39,7 +39,7 @@ returns-2 : tie.Need-returns-2
 returns-2 c =
     let d = c .before .before .before in
     let k = d .before .before .before .before in
-    scan-ends _ _ _ _ _ (k .scan-cells .ensures .1) (k .before .before .before .before .pre .0 .3) _ _ (sym (k .scan-cells .ensures .0) ∙ ap skipPaper (d .at .given .1)) (c .after-scan .ensures)
+    scan-ends _ _ _ _ _ (k .scan-cells .ensures .1) _ _ (sym (k .scan-cells .ensures .0) ∙ ap skipPaper (d .at .given .1)) (c .after-scan .ensures)
 
 pub open-cells-spec : {M : Type 1} → statement M
 open-cells-spec =
