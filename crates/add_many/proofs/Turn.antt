@@ -167,11 +167,11 @@ module _ (hs ds : List ℕ) (k n : ℕ) (t d xs : List ℕ) where
   unfolding many
   many-none e = many-is added.All n t d xs (sym (ap (λ (j : ℕ). many hs ds j 0 n t d xs) e))
 
-  pub many-store : (k ≡ 0 → ⊥) → sound n t d ≡ false → AddsMany hs ds k n t d xs (added.Refused (record { cell = 0; refusal = refusal STORE 0 })) n t d xs
+  pub many-store : (k ≡ 0 → ⊥) → sound n t d ≡ false → AddsMany hs ds k n t d xs (added.Stopped (record { cell = 0; refusal = refusal STORE 0 })) n t d xs
   unfolding many adding held
   many-store h s =
       let z : k ≡ suc (k - 1) = omega arith in
-      many-is (added.Refused (record { cell = 0; refusal = refusal STORE 0 })) n t d xs (rw (z, s))
+      many-is (added.Stopped (record { cell = 0; refusal = refusal STORE 0 })) n t d xs (rw (z, s))
 
 -- by another name of k
 pub many-as : (hs ds : List ℕ) (k j n : ℕ) (t d xs : List ℕ) (r : AddedMany) (n′ : ℕ) (t′ d′ xs′ : List ℕ) → k ≡ j → AddsMany hs ds k n t d xs r n′ t′ d′ xs′

@@ -10,7 +10,7 @@ use Rattle.scheme.specs.Res.{Res, bad, ok}
 use Rattle.scheme.specs.Builder.{Builder}
 use Rattle.scheme.specs.Calls.{StoreOut, adding}
 use Rattle.laws.specs.OneAnswer.{one-answer, one-content}
-use Rattle.add_many.specs.declared.Stopped.{Stopped}
+use Rattle.add_many.specs.declared.Stop.{Stop}
 use Rattle.add_many.specs.declared.AddedMany.{AddedMany}
 use Rattle.add_many.specs.declared.AddedMany.the-variants as added
 
@@ -57,9 +57,9 @@ many hs ds (suc k) i n t d xs =
 
 abbrev pub manyPaper : AddedMany → Turns
 manyPaper added.All = all
-manyPaper (added.Refused s) = stop (s .cell) (s .refusal)
+manyPaper (added.Stopped s) = stop (s .cell) (s .refusal)
 
-stop-inj : (s t : Stopped) → _≡_ {A = Turns} (stop (s .cell) (s .refusal)) (stop (t .cell) (t .refusal)) → s ≡ t
+stop-inj : (s t : Stop) → _≡_ {A = Turns} (stop (s .cell) (s .refusal)) (stop (t .cell) (t .refusal)) → s ≡ t
 stop-inj s t e =
     let p : s .cell ≡ t .cell = cc in
     let q : s .refusal ≡ t .refusal = cc in
@@ -67,9 +67,9 @@ stop-inj s t e =
 
 pub many-inj : (a b : AddedMany) → manyPaper a ≡ manyPaper b → a ≡ b
 many-inj added.All added.All e = refl
-many-inj added.All (added.Refused t) e = cc
-many-inj (added.Refused s) added.All e = cc
-many-inj (added.Refused s) (added.Refused t) e = ap (λ (x : Stopped). added.Refused x) (stop-inj s t e)
+many-inj added.All (added.Stopped t) e = cc
+many-inj (added.Stopped s) added.All e = cc
+many-inj (added.Stopped s) (added.Stopped t) e = ap (λ (x : Stop). added.Stopped x) (stop-inj s t e)
 
 pub record AddsMany (hs ds : List ℕ) (k n : ℕ) (t d xs : List ℕ) (r : AddedMany) (n′ : ℕ) (t′ d′ xs′ : List ℕ) : Type 0 where
   pub answer : manyPaper r ≡ (many hs ds k 0 n t d xs) .answer

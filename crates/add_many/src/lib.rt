@@ -19,16 +19,16 @@ use store::Added;
 use store::add_in;
 use store::is_sound;
 
-// The first cell that is refused, by its place in the batch, and why.
-pub struct Stopped {
+// Where a batch stopped: the first cell that is refused, by its place in the batch, and why.
+pub struct Stop {
     pub cell: usize,
     pub refusal: Refusal,
 }
 
-// What adding many answers: all are added, or those before the one that is refused.
+// What adding many answers: all are added, or it stopped at one that is refused, and those before it are added.
 pub enum AddedMany {
     All,
-    Refused(Stopped),
+    Stopped(Stop),
 }
 
 fn lesser(x: usize, y: usize) -> usize
@@ -94,7 +94,7 @@ fn add_each(
                 numbers[i] = n as u32;
             }
             Added::Refused(refusal) => {
-                return AddedMany::Refused(Stopped { cell: i, refusal });
+                return AddedMany::Stopped(Stop { cell: i, refusal });
             }
         }
         i += 1;
@@ -122,7 +122,7 @@ pub fn add_many(
         return AddedMany::All;
     }
     if !is_sound(*count, table, bytes) {
-        return AddedMany::Refused(Stopped {
+        return AddedMany::Stopped(Stop {
             cell: 0,
             refusal: Refusal {
                 number: STORE,

@@ -163,11 +163,11 @@ fn try_many(count: &mut usize, table: &mut [u32], bytes: &mut [u8], heads: &[u32
     show::text(b"many: ");
     match add_many::add_many(count, table, bytes, heads, &blocks, &mut numbers) {
         AddedMany::All => show::text(b"all"),
-        AddedMany::Refused(stopped) => {
+        AddedMany::Stopped(stop) => {
             show::text(b"cell ");
-            show::number(stopped.cell);
+            show::number(stop.cell);
             show::text(b" ");
-            show::refused(stopped.refusal);
+            show::refused(stop.refusal);
         }
     }
     show::text(b", numbers");
