@@ -14,7 +14,7 @@ use borrow.Author.Tests.{eqb-true, eqb-false, eq-eqb, ne-eqb}
 use Rattle.laws.specs.Tests.{memb-true, memb-of, memb-false, mem-dec}
 use Rattle.scheme.specs.Order.{memb, isChild, reachDown, reached, ready, join, run}
 use Rattle.laws.specs.Distinct.{Nodup}
-use Rattle.laws.specs.Kahn.{Ready, ready-true, grown, grown-keep, grown-from, grown-new, Graph, Inv, step-inv}
+use Rattle.laws.specs.Kahn.{Ready, ready-true, ready-of, grown, grown-keep, grown-from, grown-new, Graph, Inv, step-inv, room, all-listed}
 
 memb-not : (x : ℕ) (l : List ℕ) → (Mem x l → ⊥) → memb x l ≡ false
 memb-not x l h = go (memb x l) refl
@@ -82,6 +82,12 @@ abbrev pub runCounts : (ℕ → List ℕ) → ℕ → List ℕ → List ℕ → 
 runCounts kids zero counts q = []
 runCounts kids (suc k) counts [] = []
 runCounts kids (suc k) counts (x ∷ q) = x ∷ runCounts kids k ((settle [] counts q (kids x)) .counts) ((settle [] counts q (kids x)) .queue)
+
+-- the counts that the same process leaves
+abbrev pub endCounts : (ℕ → List ℕ) → ℕ → List ℕ → List ℕ → List ℕ
+endCounts kids zero counts q = counts
+endCounts kids (suc k) counts [] = counts
+endCounts kids (suc k) counts (x ∷ q) = endCounts kids k ((settle [] counts q (kids x)) .counts) ((settle [] counts q (kids x)) .queue)
 
 -- while x's references are settled: those seen have their new counts, and have joined if they are ready
 record Half (kids : ℕ → List ℕ) (R L : List ℕ) (x : ℕ) (seen counts q : List ℕ) : Type 0 where
@@ -190,28 +196,72 @@ module _ (kids : ℕ → List ℕ) (R L : List ℕ) (x : ℕ) (n : Nodup R) (hx 
           less d h (inr (here q)) = W .less d (rw e h) (inl (here q))
           less d h (inr (there m)) = W .less d (rw e h) (inr m)
 
--- the process by counts lists what the order's definition lists
-pub run-counts : (kids : ℕ → List ℕ) (R : List ℕ) (root : ℕ) → Graph kids R root → Nodup R → (k : ℕ) (L q counts : List ℕ) → Inv kids R L q
-    → ((d : ℕ) → d < length counts → getD counts d 0 ≡ parents kids R L d) → ((c : ℕ) → Mem c R → c < length counts) → runCounts kids k counts q ≡ run kids R k L q
-run-counts kids R root G n zero L q counts I P B = refl
-run-counts kids R root G n (suc k) L [] counts I P B = refl
-run-counts kids R root G n (suc k) L (x ∷ q) counts I P B =
-    let W = settle-whole kids R L x n hx nx (kids x) [] counts q half (λ c m. m) (λ c m. B c (G .closed x c hx m)) in
-    let ih = run-counts kids R root G n k (x ∷ L) (join kids R (x ∷ L) q (kids x)) ((settle [] counts q (kids x)) .counts) (step-inv kids R root G L x q I) (λ d h. new W d (rw (← (W .long)) h) (mem-dec d (kids x))) (λ c m. rw (W .long) (B c m)) in
-    rw (W .queue-is, ih)
-  where
-    hx : Mem x R
-    hx = I .inQ x (here refl)
+-- a count for each cell of R: how many of its parents are not in L
+pub record Right (kids : ℕ → List ℕ) (R L counts : List ℕ) : Type 0 where
+  pub waits : (d : ℕ) → d < length counts → getD counts d 0 ≡ parents kids R L d
+  pub inside : (c : ℕ) → Mem c R → c < length counts
 
-    nx : Mem x L → ⊥
-    nx = I .apart x (here refl)
+-- the front cell x is listed: the queue is that of the order's definition, and the counts stay right
+record Turn (kids : ℕ → List ℕ) (R L : List ℕ) (x : ℕ) (counts q : List ℕ) (t : Settled) : Type 0 where
+  queue-is : t .queue ≡ join kids R (x ∷ L) q (kids x)
+  long : length (t .counts) ≡ length counts
+  right : Right kids R (x ∷ L) (t .counts)
 
-    half : Half kids R L x [] counts q
-    half = record { old = λ c h ns. P c h; new = λ c h m. elim m [ ]; joined = λ c m. elim m [ ]; fresh = λ c kc ns m. nx (I .readyQ c (there m) x hx kc) }
+module _ (kids : ℕ → List ℕ) (R : List ℕ) (root : ℕ) (G : Graph kids R root) (n : Nodup R) where
+  turn : (L : List ℕ) (x : ℕ) (counts q : List ℕ) → Inv kids R L (x ∷ q) → Right kids R L counts → Turn kids R L x counts q (settle [] counts q (kids x))
+  turn L x counts q I P =
+      let W = settle-whole kids R L x n hx nx (kids x) [] counts q half (λ c m. m) (λ c m. P .inside c (G .closed x c hx m)) in
+      record {
+        queue-is = W .queue-is;
+        long = W .long;
+        right = record { waits = λ d h. new W d (rw (← (W .long)) h) (mem-dec d (kids x)); inside = λ c m. rw (W .long) (P .inside c m) };
+      }
+    where
+      hx : Mem x R
+      hx = I .inQ x (here refl)
 
-    new : Whole kids R L x n hx nx counts q (kids x) (settle [] counts q (kids x)) [] → (d : ℕ) → d < length counts → Mem d (kids x) ⊎ (Mem d (kids x) → ⊥) → getD ((settle [] counts q (kids x)) .counts) d 0 ≡ parents kids R (x ∷ L) d
-    new W d h (inl m) = W .less d h (inr m)
-    new W d h (inr nm) = W .left d h (λ m. elim m [ ]) nm ∙ sym (parents-kept kids R L x d nm)
+      nx : Mem x L → ⊥
+      nx = I .apart x (here refl)
+
+      half : Half kids R L x [] counts q
+      half = record {
+        old = λ c h ns. P .waits c h;
+        new = λ c h m. elim m [ ];
+        joined = λ c m. elim m [ ];
+        fresh = λ c kc ns m. nx (I .readyQ c (there m) x hx kc);
+      }
+
+      new : Whole kids R L x n hx nx counts q (kids x) (settle [] counts q (kids x)) [] → (d : ℕ) → d < length counts → Mem d (kids x) ⊎ (Mem d (kids x) → ⊥)
+          → getD ((settle [] counts q (kids x)) .counts) d 0 ≡ parents kids R (x ∷ L) d
+      new W d h (inl m) = W .less d h (inr m)
+      new W d h (inr nm) = W .left d h (λ m. elim m [ ]) nm ∙ sym (parents-kept kids R L x d nm)
+
+  -- the process by counts lists what the order's definition lists
+  pub run-counts : (k : ℕ) (L q counts : List ℕ) → Inv kids R L q → Right kids R L counts → runCounts kids k counts q ≡ run kids R k L q
+  run-counts zero L q counts I P = refl
+  run-counts (suc k) L [] counts I P = refl
+  run-counts (suc k) L (x ∷ q) counts I P =
+      let T = turn L x counts q I P in
+      let J = step-inv kids R root G L x q I in
+      rw (T .queue-is, run-counts k (x ∷ L) (join kids R (x ∷ L) q (kids x)) ((settle [] counts q (kids x)) .counts) J (T .right))
+
+  -- with an empty queue no cell waits
+  none-waits : (L counts : List ℕ) → Inv kids R L [] → Right kids R L counts → (d : ℕ) → d < length counts → getD counts d 0 ≡ 0
+  none-waits L counts I P d h =
+      let r = ready-of kids R L d (λ p hp k. all-listed kids R root G L I (suc root) p hp (omega arith)) in
+      P .waits d h ∙ eqb-true (parents kids R L d) 0 (sym (ready-parents kids R L d) ∙ r)
+
+  -- so the process leaves all counts at 0; it lists at most m cells
+  pub end-counts : (m k : ℕ) (L q counts : List ℕ) → root < m → m ≤ k + length L → Inv kids R L q → Right kids R L counts
+      → (d : ℕ) → d < length counts → getD (endCounts kids k counts q) d 0 ≡ 0
+  end-counts m zero L [] counts h f I P d g = none-waits L counts I P d g
+  end-counts m zero L (x ∷ q) counts h f I P d g = absurd (omega (arith, room kids R root G m L (x ∷ q) h I))
+  end-counts m (suc k) L [] counts h f I P d g = none-waits L counts I P d g
+  end-counts m (suc k) L (x ∷ q) counts h f I P d g =
+      let T = turn L x counts q I P in
+      let J = step-inv kids R root G L x q I in
+      let c = (settle [] counts q (kids x)) .counts in
+      rw (T .queue-is) (end-counts m k (x ∷ L) (join kids R (x ∷ L) q (kids x)) c h (omega arith) J (T .right) d (rw (T .long) g))
 
 -- one on the count of each of these references that is not in `seen`
 abbrev pub bump : List ℕ → List ℕ → List ℕ → List ℕ

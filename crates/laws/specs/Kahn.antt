@@ -224,7 +224,7 @@ module _ (kids : ℕ → List ℕ) (R : List ℕ) (root : ℕ) (G : Graph kids R
       all y hy r (inr no-kid) = sort y (I .all y hy (before y r no-kid))
 
   -- with an empty queue all is listed: by the number, from the root down
-  all-listed : (L : List ℕ) → Inv kids R L [] → (m c : ℕ) → Mem c R → root < c + m → Mem c L
+  pub all-listed : (L : List ℕ) → Inv kids R L [] → (m c : ℕ) → Mem c R → root < c + m → Mem c L
   all-listed L I zero c hc h = absurd (omega (arith, G .top c hc))
   all-listed L I (suc m) c hc h = go (I .all c hc (λ p hp k. all-listed L I m p hp (omega (arith, G .low p c hp k))))
     where

@@ -1,5 +1,5 @@
 -- The queue in the scratch is the queue of the order, and there is room for it. Assumes nothing.
-use mathlib.Core.Path.{_≡_, refl, sym, _∙_}
+use mathlib.Core.Path.{_≡_, refl, sym, ap, _∙_}
 use mathlib.Core.Bool.{Bool, true, false, cond, _&&_}
 use mathlib.Core.List.{List, [], _∷_, _++_, append-nil, append-assoc, List·Memᴰ as Mem, List·Memᴰ·head as here, List·Memᴰ·tail as there, List·Memᴰ·not-nil}
 use mathlib.Core.Logic.{_⊎_, inl, inr}
@@ -8,12 +8,13 @@ use native.Mathlib.Omega.{arith}
 use lib.ListN.{length, take, getD, set, length-set, replicate, length-append, length-replicate, getD-replicate, List·getD-eq-default}
 use lib.Seq.{slice, slice-empty, length-slice, length-take-le, getD-take, getD-set-same, take-set-le}
 use lib.Dec.{ltb}
-use borrow.Author.Tests.{ltb-true, ltb-false}
+use borrow.Author.Tests.{ltb-true, ltb-false, eqb-true}
 use Rattle.laws.specs.Distinct.{Nodup}
 use Rattle.scheme.specs.Order.{memb, join, reached, run, order}
-use Rattle.laws.specs.Kahn.{Graph, Inv, Good, room, start-inv, step-inv, kahn}
+use Rattle.laws.specs.Kahn.{Graph, Inv, Good, ready-of, room, start-inv, step-inv, kahn}
 use Rattle.laws.specs.Reach.{graph}
-use Rattle.laws.specs.Counts.{settle, runCounts, countDown, bump, bump-at, parents, run-counts, counted-down, length-bump, nodup-reached}
+use Rattle.laws.specs.Counts.{Settled, settle, runCounts, endCounts, countDown, bump, bump-at, parents, ready-parents}
+use Rattle.laws.specs.Counts.{Right, run-counts, end-counts, counted-down, length-bump, nodup-reached}
 use Rattle.laws.specs.Records.{refsAt, Linked}
 use Rattle.order.specs.Queue.{kidsAt, Small, Joined, Roomy, Listed, Placed, Ordered}
 use Rattle.order.proofs.Kids.{kids-refs, kids-below, order-is}
@@ -116,6 +117,13 @@ module _ (kids : ℕ → List ℕ) (n head tail : ℕ) (s : List ℕ) (hn : n �
           let p′ : slice n head s ++ runCounts kids (suc (2 * n - (head + 1))) (take n s) (x ∷ slice (head + 1) tail s) ≡ X = rw q (rw (fuel, front) at p) in
           rw (k, w, append-assoc (slice n head s) (x ∷ []) (runCounts kids (2 * n - (head + 1)) (take n s′) (slice (head + 1) end s′))) (sym (rw settled refl) ∙ p′)
 
+      -- the counts that the process leaves
+      pub turn-ends : (X : List ℕ) → endCounts kids (2 * n - head) (take n s) (slice head tail s) ≡ X
+          → endCounts kids (2 * n - (head + 1)) (take n s′) (slice (head + 1) end s′) ≡ X
+      turn-ends X p =
+          let p′ : endCounts kids (suc (2 * n - (head + 1))) (take n s) (x ∷ slice (head + 1) tail s) ≡ X = rw q (rw (fuel, front) at p) in
+          ap (λ (T : Settled). endCounts kids (2 * n - (head + 1)) (T .counts) (T .queue)) (sym settled) ∙ p′
+
 -- the start: the root alone
 module _ (kids : ℕ → List ℕ) (n root : ℕ) (s : List ℕ) (h : n < length s) where
   pub start-counts : take n (set s n root) ≡ take n s
@@ -132,6 +140,9 @@ module _ (kids : ℕ → List ℕ) (n root : ℕ) (s : List ℕ) (h : n < length
   pub start-list : slice n n (set s n root) ++ runCounts kids (2 * n - n) (take n (set s n root)) (slice n (n + 1) (set s n root)) ≡ runCounts kids n (take n (set s n root)) (root ∷ [])
   start-list = rw (start-queue, start-fuel, slice-empty n (set s n root)) refl
 
+  pub start-ends : endCounts kids (2 * n - n) (take n (set s n root)) (slice n (n + 1) (set s n root)) ≡ endCounts kids n (take n (set s n root)) (root ∷ [])
+  start-ends = rw (start-queue, start-fuel) refl
+
   pub start-room : Roomy kids n n (take n s) (root ∷ []) 0 → Roomy kids n (2 * n - n) (take n (set s n root)) (slice n (n + 1) (set s n root)) (n - n)
   start-room r = let z : n - n ≡ 0 = omega arith in rw (start-counts, start-queue, start-fuel, z) r
 
@@ -144,6 +155,17 @@ end-list kids n head tail k s X h g p =
     sym (append-nil (slice n tail s)) ∙ go k w
   where
     go : (k : ℕ) → slice n tail s ++ runCounts kids k (take n s) [] ≡ X → slice n tail s ++ [] ≡ X
+    go zero w = w
+    go (suc k) w = w
+
+pub end-ends : (kids : ℕ → List ℕ) (n head tail k : ℕ) (s X : List ℕ) → tail ≤ head → head ≤ tail
+    → endCounts kids k (take n s) (slice head tail s) ≡ X → take n s ≡ X
+end-ends kids n head tail k s X h g p =
+    let e : head ≡ tail = omega arith in
+    let q : endCounts kids k (take n s) (slice tail tail s) ≡ X = rw e at p in
+    go k (rw (slice-empty tail s) at q)
+  where
+    go : (k : ℕ) → endCounts kids k (take n s) [] ≡ X → take n s ≡ X
     go zero w = w
     go (suc k) w = w
 
@@ -193,12 +215,30 @@ module _ (t : List ℕ) (n root m : ℕ) (L : Linked t n) (h : root < n) (g : n 
       let k : d < n = rw cut-length at e in
       getD-take n (counted t n root (replicate m 0)) d 0 k ∙ counts-right .1 d (omega (arith, counted-length))
 
-  inside : (c : ℕ) → Mem c (reached (kidsAt t n) root) → c < length (take n (counted t n root (replicate m 0)))
-  inside c e = omega (arith, G .top c e, cut-length)
+  -- a number that is no cell's waits for none
+  pub counted-behind : (d : ℕ) → n ≤ d → d < m → getD (counted t n root (replicate m 0)) d 0 ≡ 0
+  counted-behind d a b =
+      let r = ready-of (kidsAt t n) (reached (kidsAt t n) root) [] d (λ p hp k. absurd (omega (arith, G .top p hp, kids-below t n L p d k))) in
+      counts-right .1 d (rw counted-length b)
+      ∙ eqb-true (parents (kidsAt t n) (reached (kidsAt t n) root) [] d) 0 (sym (ready-parents (kidsAt t n) (reached (kidsAt t n) root) [] d) ∙ r)
+
+  right : Right (kidsAt t n) (reached (kidsAt t n) root) [] (take n (counted t n root (replicate m 0)))
+  right = record { waits = cut-right; inside = λ c e. omega (arith, G .top c e, cut-length) }
 
   -- the counts in the scratch list what the order's definition lists
   run-is : (k : ℕ) → runCounts (kidsAt t n) k (take n (counted t n root (replicate m 0))) (root ∷ []) ≡ run (kidsAt t n) (reached (kidsAt t n) root) k [] (root ∷ [])
-  run-is k = run-counts (kidsAt t n) (reached (kidsAt t n) root) root G (nodup-reached (kidsAt t n) root) k [] (root ∷ []) (take n (counted t n root (replicate m 0))) (start-inv (kidsAt t n) (reached (kidsAt t n) root) root G) cut-right inside
+  run-is k =
+      let I = start-inv (kidsAt t n) (reached (kidsAt t n) root) root G in
+      let once = nodup-reached (kidsAt t n) root in
+      run-counts (kidsAt t n) (reached (kidsAt t n) root) root G once k [] (root ∷ []) (take n (counted t n root (replicate m 0))) I right
+
+  -- at the end no cell waits
+  pub end-zero : (d : ℕ) → d < n → getD (endCounts (kidsAt t n) n (take n (counted t n root (replicate m 0))) (root ∷ [])) d 0 ≡ 0
+  end-zero d b =
+      let I = start-inv (kidsAt t n) (reached (kidsAt t n) root) root G in
+      let c = take n (counted t n root (replicate m 0)) in
+      let once = nodup-reached (kidsAt t n) root in
+      end-counts (kidsAt t n) (reached (kidsAt t n) root) root G once n n [] (root ∷ []) c h (omega arith) I right d (rw cut-length b)
 
   pub run-order : runCounts (kidsAt t n) n (take n (counted t n root (replicate m 0))) (root ∷ []) ≡ order (kidsAt t n) n root
   run-order = run-is n
@@ -251,13 +291,22 @@ module _ (t : List ℕ) (n root m : ℕ) (L : Linked t n) (h : root < n) (g : 4 
     passes-closed x c i r =
         rw passes-order (order-closed t n root m L h g₁ x c (rw passes-order at i) (rw (kids-refs t n x (passes-below x i)) r))
 
+    passes-before : (d : ℕ) → d < n → getD s₂ d 0 ≡ 0
+    passes-before d a = sym (getD-take n s₂ d 0 a) ∙ rw (D .counts, e) (end-zero t n root m L h g₁ d a)
+
     pub passes-ordered : (s₃ : List ℕ) → Placed n k s₂ s₃ → length s₂ ≡ m → length s₃ ≡ m → Ordered t n root s₃ k
     passes-ordered s₃ P l₂ l₃ =
         let w = D .within in
-        let same : slice n (n + k) s₃ ≡ slice n (n + k) s₂ = slice-same n (n + k) s₂ s₃ (omega arith) (omega arith) (λ d a b. P .kept d (omega arith)) in
+        let same : slice n (n + k) s₃ ≡ slice n (n + k) s₂ = slice-same n (n + k) s₂ s₃ (omega arith) (omega arith) (λ d a b. kept d (omega arith)) in
         record {
           within = w;
           listed = λ d. same ∙ passes-order ∙ sym (order-is t d n root);
           below = λ x i. passes-below x (rw same at i);
+          place = λ x i. P .places x (rw same at i) ∙ rw same refl;
           places = λ x r i c. P .places r (passes-closed x r (rw same at i) c) ∙ rw same refl;
+          before = λ d a. kept d (omega arith) ∙ passes-before d a;
+          behind = λ d a b z. P .kept d (rw same at z) ∙ D .behind d a ∙ rw e (counted-behind t n root m L h g₁ d (omega arith) (omega arith));
         }
+      where
+        kept : (d : ℕ) → d < 2 * n → getD s₃ d 0 ≡ getD s₂ d 0
+        kept d a = P .kept d (λ x i q. omega arith)

@@ -165,16 +165,24 @@ module _ (s : List ℕ) (r n tail end : ℕ) (hr : r < n) (hn : n ≤ tail) (ht 
       go true p = omega (arith, settle-long cs (r ∷ seen) (less (take n s) r) (slice tail end s ++ r ∷ []), length-append (slice tail end s) (r ∷ []), length-slice tail end s he)
       go false p = he
 
+  less-kept : (d : ℕ) → n ≤ d → getD (less s r) d 0 ≡ getD s d 0
+  less-kept d a = getD-set-other s r d (getD s r 0 - 1) 0 (λ e. omega arith)
+
   pub wait-kept : (d : ℕ) → n ≤ d → d < tail → getD (waitMem s r end) d 0 ≡ getD s d 0
   unfolding waitMem
   wait-kept d a b = go (last s r)
     where
-      low : getD (less s r) d 0 ≡ getD s d 0
-      low = getD-set-other s r d (getD s r 0 - 1) 0 (λ e. omega arith)
-
       go : (b : Bool) → getD (cond b (set (less s r) end r) (less s r)) d 0 ≡ getD s d 0
-      go true = getD-set-other (less s r) end d r 0 (λ e. omega arith) ∙ low
-      go false = low
+      go true = getD-set-other (less s r) end d r 0 (λ e. omega arith) ∙ less-kept d a
+      go false = less-kept d a
+
+  pub wait-behind : (d : ℕ) → waitEnd s r end ≤ d → getD (waitMem s r end) d 0 ≡ getD s d 0
+  unfolding waitMem waitEnd
+  wait-behind d = go (last s r)
+    where
+      go : (b : Bool) → cond b (end + 1) end ≤ d → getD (cond b (set (less s r) end r) (less s r)) d 0 ≡ getD s d 0
+      go true a = getD-set-other (less s r) end d r 0 (λ e. omega arith) ∙ less-kept d (omega arith)
+      go false a = less-kept d (omega arith)
 
 pub wait-length : (s : List ℕ) (r end : ℕ) → length (waitMem s r end) ≡ length s
 unfolding waitMem

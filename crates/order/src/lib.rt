@@ -145,7 +145,8 @@ fn place_cells(n: usize, m: usize, scratch: &mut [u32])
     }
 }
 
-// Lists the cells that the root reaches in the order of writing, with the place of each; answers how many. Interface between crates.
+// Lists the cells that the root reaches in the order of writing, with the place of each, and leaves every other entry 0; answers how many.
+// Interface between crates.
 pub fn order(table: &[u32], n: usize, root: usize, scratch: &mut [u32]) -> usize
     requires { ⌜ Linked (now table) n ⌝ }
     requires { ⌜ root < n ⌝ }

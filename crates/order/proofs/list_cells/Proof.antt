@@ -1,21 +1,36 @@
 -- `order::list_cells` meets its contract: the cells listed, and what the rest of the process lists, are the listing. Assumes nothing.
-use Prim.Native.Nat.{_≤_, _<_, _-_, _+_, _*_}
+use Prim.Native.Nat.{ℕ, _≤_, _<_, _-_, _+_, _*_}
 use mathlib.Core.Path.{_≡_, refl, _∙_}
-use mathlib.Core.List.{[], _∷_, _++_}
+use mathlib.Core.List.{List, [], _∷_, _++_}
 use native.Mathlib.Omega.{arith}
 use lib.ListN.{length, take, getD, length-set}
-use lib.Seq.{slice}
+use lib.Seq.{slice, getD-set-other}
 use borrow.Author.Needs.{needs}
-use Rattle.laws.specs.Counts.{runCounts}
+use Rattle.laws.specs.Counts.{runCounts, endCounts}
 use Rattle.laws.specs.Records.{refsAt}
 use Rattle.order.specs.Queue.{kidsAt, Roomy}
 use Rattle.order.proofs.Kids.{kids-refs}
-use Rattle.order.proofs.Orders.{start-counts, start-list, start-room, end-list, front-below, front-room, turn-room, turn-end, turn-list}
+use Rattle.order.proofs.Orders.{start-counts, start-list, start-ends, start-room, end-list, end-ends}
+use Rattle.order.proofs.Orders.{front-below, front-room, turn-room, turn-end, turn-list, turn-ends}
 use Rattle.order.proofs.list_cells.Statement.{statement}
 use Rattle.order.proofs.list_cells.Tie as tie
 
+-- what the process lists, and the counts that it leaves, with the queue q and at most k cells to list
+abbrev lists : List ℕ → ℕ → ℕ → List ℕ → List ℕ → List ℕ
+lists table n k scratch q = runCounts (kidsAt table n) k (take n scratch) q
+
+abbrev leaves : List ℕ → ℕ → ℕ → List ℕ → List ℕ → List ℕ
+leaves table n k scratch q = endCounts (kidsAt table n) k (take n scratch) q
+
 abbrev Inv-loop : tie.InvT-loop
-Inv-loop table n root scratch₀ head₀ tail₀ scratch head tail = (n ≤ head) × (head ≤ tail) × (tail ≤ 2 * n) × (length scratch ≡ length scratch₀) × (slice n head scratch ++ runCounts (kidsAt table n) (2 * n - head) (take n scratch) (slice head tail scratch) ≡ runCounts (kidsAt table n) n (take n scratch₀) (root ∷ [])) × Roomy (kidsAt table n) n (2 * n - head) (take n scratch) (slice head tail scratch) (head - n) × (2 * n ≤ length scratch₀)
+Inv-loop table n root scratch₀ head₀ tail₀ scratch head tail =
+    (n ≤ head) × (head ≤ tail) × (tail ≤ 2 * n) × (length scratch ≡ length scratch₀)
+    × (slice n head scratch ++ lists table n (2 * n - head) scratch (slice head tail scratch) ≡ lists table n n scratch₀ (root ∷ []))
+    × Roomy (kidsAt table n) n (2 * n - head) (take n scratch) (slice head tail scratch) (head - n)
+    × (2 * n ≤ length scratch₀)
+    × (leaves table n (2 * n - head) scratch (slice head tail scratch) ≡ leaves table n n scratch₀ (root ∷ []))
+    × (n < tail)
+    × ((d : ℕ) → tail ≤ d → getD scratch d 0 ≡ getD scratch₀ d 0)
 
 abbrev μ-loop : tie.MeasureT-loop
 μ-loop table n root scratch₀ head₀ tail₀ scratch head tail = 2 * n - head
@@ -38,8 +53,18 @@ loop-holds c =
     let a = s .args in
     let h : a .n < length (a .scratch .now) = omega arith in
     let r = s .pre .1 .1 .1 .1 in
-    let K = kidsAt (a .table .now) (a .n) in
-    (omega arith, omega arith, omega arith, refl, start-list K (a .n) (a .root) (a .scratch .now) h, start-room K (a .n) (a .root) (a .scratch .now) h r, simp length-set (omega arith))
+    let K = kidsAt (a .table .now) (a .n) in (
+      omega arith,
+      omega arith,
+      omega arith,
+      refl,
+      start-list K (a .n) (a .root) (a .scratch .now) h,
+      start-room K (a .n) (a .root) (a .scratch .now) h r,
+      simp length-set (omega arith),
+      start-ends K (a .n) (a .root) (a .scratch .now) h,
+      omega arith,
+      λ d e. refl,
+    )
 
 entry-requires : tie.Need-entry-requires Inv-loop μ-loop
 entry-requires c κs = omega arith
@@ -77,14 +102,19 @@ loop-again c =
     let b : x .result < a .n = omega (arith, x .ensures) in
     let e = kids-refs (a .table .now) (a .n) (x .result) b in
     let s′ = r .last .1 .1 .1 .1 .0 in
-    let k = r .kept .1 .1 .1 .1 .0 in (
+    let k = r .kept .1 .1 .1 .1 .0 in
+    let room = l .inv .5 in
+    let T = a .table .now in (
       omega arith,
       omega (arith, r .ensures .from),
-      turn-end K (a .n) (l .head) (l .tail) (l .scratch) hn ht hl hs (l .inv .5) (a .table .now) (x .result) s′ (r .result) (x .ensures) e (r .ensures) k,
+      turn-end K (a .n) (l .head) (l .tail) (l .scratch) hn ht hl hs room T (x .result) s′ (r .result) (x .ensures) e (r .ensures) k,
       k ∙ l .inv .3,
-      turn-list K (a .n) (l .head) (l .tail) (l .scratch) hn ht hl hs (l .inv .5) (a .table .now) (x .result) s′ (r .result) (x .ensures) e (r .ensures) k _ (l .inv .4),
-      turn-room K (a .n) (l .head) (l .tail) (l .scratch) hn ht hl hs (l .inv .5) (a .table .now) (x .result) s′ (r .result) (x .ensures) e (r .ensures) k,
+      turn-list K (a .n) (l .head) (l .tail) (l .scratch) hn ht hl hs room T (x .result) s′ (r .result) (x .ensures) e (r .ensures) k _ (l .inv .4),
+      turn-room K (a .n) (l .head) (l .tail) (l .scratch) hn ht hl hs room T (x .result) s′ (r .result) (x .ensures) e (r .ensures) k,
       l .inv .6,
+      turn-ends K (a .n) (l .head) (l .tail) (l .scratch) hn ht hl hs room T (x .result) s′ (r .result) (x .ensures) e (r .ensures) k _ (l .inv .7),
+      omega (arith, r .ensures .from),
+      λ d f. r .ensures .behind d f ∙ l .inv .9 d (omega (arith, r .ensures .from)),
     )
 
 sub-result : tie.Need-sub-result Inv-loop μ-loop
@@ -103,7 +133,16 @@ returns c =
     let K = kidsAt (a .table .now) (a .n) in
     let e : a .n + (l .tail - a .n) ≡ l .tail = omega arith in
     let h : a .n < length (a .scratch .now) = omega arith in
-    record { within = omega arith; listed = rw e (end-list K (a .n) (l .head) (l .tail) (2 * a .n - l .head) (l .scratch) (runCounts K (a .n) (take (a .n) (a .scratch .now)) (a .root ∷ [])) (c .loop-test .left) (l .inv .1) (l .inv .4 ∙ rw (start-counts K (a .n) (a .root) (a .scratch .now) h) refl)) }
+    let f = 2 * a .n - l .head in
+    let same = start-counts K (a .n) (a .root) (a .scratch .now) h in
+    let all = lists (a .table .now) (a .n) (a .n) (a .scratch .now) (a .root ∷ []) in
+    let left = leaves (a .table .now) (a .n) (a .n) (a .scratch .now) (a .root ∷ []) in
+    record {
+      within = omega arith;
+      listed = rw e (end-list K (a .n) (l .head) (l .tail) f (l .scratch) all (c .loop-test .left) (l .inv .1) (l .inv .4 ∙ rw same refl));
+      counts = end-ends K (a .n) (l .head) (l .tail) f (l .scratch) left (c .loop-test .left) (l .inv .1) (l .inv .7 ∙ rw same refl);
+      behind = λ d g. l .inv .9 d (omega arith) ∙ getD-set-other (a .scratch .now) (a .n) d (a .root) 0 (λ z. omega arith);
+    }
 
 pub list-cells-spec : {M : Type 1} → statement M
 list-cells-spec =

@@ -8,22 +8,29 @@ use lib.Seq.{slice, length-slice, take-all, getD-set-other}
 use borrow.Author.Needs.{needs}
 use Rattle.scheme.specs.Write.{placeOf}
 use Rattle.laws.specs.Slices.{slice-get, mem-get}
+use Rattle.order.specs.Queue.{NoPlace}
 use Rattle.order.proofs.Places.{place-turn}
 use Rattle.order.proofs.place_cells.Statement.{statement}
 use Rattle.order.proofs.place_cells.Tie as tie
 
--- the cell at place p is the listing's
-listed : (s₀ s : List ℕ) (n m p x : ℕ) → p < m → m ≤ n → x ≡ getD s (n + p) 0 → ((d : ℕ) → d < 2 * n → getD s d 0 ≡ getD s₀ d 0) → x ≡ getD (slice n (n + m) s₀) p 0
-listed s₀ s n m p x h g q kept = q ∙ kept (n + p) (omega arith) ∙ sym (slice-get n (n + m) p s₀ (omega arith))
+-- what the turns before keep
+abbrev Kept : (s₀ s : List ℕ) (n m : ℕ) → Type 0
+Kept s₀ s n m = (d : ℕ) → NoPlace n (slice n (n + m) s₀) d → getD s d 0 ≡ getD s₀ d 0
 
--- the cell that a turn reads is below n
-small : (s₀ s : List ℕ) (n m p x : ℕ) → p < m → m ≤ n → 3 * n ≤ length s₀ → x ≡ getD s (n + p) 0 → ((d : ℕ) → d < 2 * n → getD s d 0 ≡ getD s₀ d 0) → ((x : ℕ) → Mem x (slice n (n + m) s₀) → x < n) → x < n
-small s₀ s n m p x h g l q kept below =
-    let k : p < length (slice n (n + m) s₀) = rw (length-slice n (n + m) s₀ (omega arith)) (omega arith) in
-    rw (listed s₀ s n m p x h g q kept) (below (getD (slice n (n + m) s₀) p 0) (mem-get (slice n (n + m) s₀) p k))
+module _ (s₀ s : List ℕ) (n m p x : ℕ) (h : p < m) (g : m ≤ n) (q : x ≡ getD s (n + p) 0) (kept : Kept s₀ s n m) where
+  -- the cell at place p is the listing's
+  listed : x ≡ getD (slice n (n + m) s₀) p 0
+  listed = q ∙ kept (n + p) (λ y i e. omega arith) ∙ sym (slice-get n (n + m) p s₀ (omega arith))
+
+  among : 3 * n ≤ length s₀ → Mem x (slice n (n + m) s₀)
+  among l =
+      let k : p < length (slice n (n + m) s₀) = rw (length-slice n (n + m) s₀ (omega arith)) (omega arith) in
+      rw listed (mem-get (slice n (n + m) s₀) p k)
 
 abbrev Inv-loop : tie.InvT-loop
-Inv-loop n m scratch₀ p₀ scratch p = (p ≤ m) × (length scratch ≡ length scratch₀) × ((d : ℕ) → d < 2 * n → getD scratch d 0 ≡ getD scratch₀ d 0) × ((x : ℕ) → Mem x (take p (slice n (n + m) scratch₀)) → getD scratch (2 * n + x) 0 ≡ placeOf x (slice n (n + m) scratch₀))
+Inv-loop n m scratch₀ p₀ scratch p =
+    (p ≤ m) × (length scratch ≡ length scratch₀) × Kept scratch₀ scratch n m
+    × ((x : ℕ) → Mem x (take p (slice n (n + m) scratch₀)) → getD scratch (2 * n + x) 0 ≡ placeOf x (slice n (n + m) scratch₀))
 
 abbrev μ-loop : tie.MeasureT-loop
 μ-loop n m scratch₀ p₀ scratch p = m - p
@@ -48,7 +55,9 @@ add-scratch c =
     let s : tie.Start Inv-loop μ-loop = search needs in
     let a = s .args in
     let l = c .before .before .before .loop in
-    let b = small (a .scratch .now) (l .scratch) (a .n) (a .m) (l .p) (c .entry .result) (omega arith) (omega arith) (omega arith) (c .entry .ensures) (l .inv .2) (s .pre .1 .1 .1 .1) in
+    let x = c .entry in
+    let i = among (a .scratch .now) (l .scratch) (a .n) (a .m) (l .p) (x .result) (omega arith) (omega arith) (x .ensures) (l .inv .2) (omega arith) in
+    let b = s .pre .1 .1 .1 .1 (c .entry .result) i in
     omega arith
 
 mul-scratch-2 : tie.Need-mul-scratch-2 Inv-loop μ-loop
@@ -56,7 +65,9 @@ mul-scratch-2 c =
     let s : tie.Start Inv-loop μ-loop = search needs in
     let a = s .args in
     let l = c .before .before .before .loop in
-    let b = small (a .scratch .now) (l .scratch) (a .n) (a .m) (l .p) (c .entry .result) (omega arith) (omega arith) (omega arith) (c .entry .ensures) (l .inv .2) (s .pre .1 .1 .1 .1) in
+    let x = c .entry in
+    let i = among (a .scratch .now) (l .scratch) (a .n) (a .m) (l .p) (x .result) (omega arith) (omega arith) (x .ensures) (l .inv .2) (omega arith) in
+    let b = s .pre .1 .1 .1 .1 (c .entry .result) i in
     omega arith
 
 slice-write-scratch : tie.Need-slice-write-scratch Inv-loop μ-loop
@@ -64,7 +75,9 @@ slice-write-scratch c =
     let s : tie.Start Inv-loop μ-loop = search needs in
     let a = s .args in
     let l = c .before .before .before .loop in
-    let b = small (a .scratch .now) (l .scratch) (a .n) (a .m) (l .p) (c .entry .result) (omega arith) (omega arith) (omega arith) (c .entry .ensures) (l .inv .2) (s .pre .1 .1 .1 .1) in
+    let x = c .entry in
+    let i = among (a .scratch .now) (l .scratch) (a .n) (a .m) (l .p) (x .result) (omega arith) (omega arith) (x .ensures) (l .inv .2) (omega arith) in
+    let b = s .pre .1 .1 .1 .1 (c .entry .result) i in
     omega arith
 
 add-p : tie.Need-add-p Inv-loop μ-loop
@@ -78,13 +91,15 @@ loop-again c =
     let s : tie.Start Inv-loop μ-loop = search needs in
     let a = s .args in
     let l = c .before .before .before .loop in
-    let b = small (a .scratch .now) (l .scratch) (a .n) (a .m) (l .p) (c .entry .result) (omega arith) (omega arith) (omega arith) (c .entry .ensures) (l .inv .2) (s .pre .1 .1 .1 .1) in
+    let x = c .entry in
+    let i = among (a .scratch .now) (l .scratch) (a .n) (a .m) (l .p) (x .result) (omega arith) (omega arith) (x .ensures) (l .inv .2) (omega arith) in
+    let b = s .pre .1 .1 .1 .1 (c .entry .result) i in
     let q = listed (a .scratch .now) (l .scratch) (a .n) (a .m) (l .p) (c .entry .result) (omega arith) (omega arith) (c .entry .ensures) (l .inv .2) in
     let out = slice (a .n) (a .n + a .m) (a .scratch .now) in
     let k : l .p < length out = omega (arith, length-slice (a .n) (a .n + a .m) (a .scratch .now) (omega arith)) in (
       omega arith,
       simp length-set (l .inv .1),
-      λ d h. getD-set-other (l .scratch) (2 * a .n + c .entry .result) d (l .p) 0 (λ e. omega arith) ∙ l .inv .2 d h,
+      λ d h. getD-set-other (l .scratch) (2 * a .n + c .entry .result) d (l .p) 0 (h (c .entry .result) i) ∙ l .inv .2 d h,
       place-turn out (l .scratch) (a .n) (l .p) (c .entry .result) (s .pre .1 .1 .1 .0) k q (omega arith) (l .inv .3),
     )
 

@@ -11,12 +11,16 @@ use borrow.Author.Needs.{needs}
 use Rattle.laws.specs.Counts.{settle}
 use Rattle.laws.specs.Records.{refsAt, refs-end}
 use Rattle.order.specs.Queue.{seenAt, waitMem, waitEnd}
-use Rattle.order.proofs.Steps.{wait-from, wait-length, wait-kept, settle-turn-new, settle-turn-old, settle-turn-room}
+use Rattle.order.proofs.Steps.{wait-from, wait-length, wait-kept, wait-behind, settle-turn-new, settle-turn-old, settle-turn-room}
 use Rattle.order.proofs.settle.Statement.{statement}
 use Rattle.order.proofs.settle.Tie as tie
 
 abbrev Inv-loop : tie.InvT-loop
-Inv-loop table i n tail scratch₀ k j₀ end₀ scratch j end = (j ≤ k) × (tail ≤ end) × (end ≤ length scratch₀) × (length scratch ≡ length scratch₀) × (settle (seenAt table i j) (take n scratch) (slice tail end scratch) (drop j (refsAt table i)) ≡ settle [] (take n scratch₀) [] (refsAt table i)) × ((d : ℕ) → n ≤ d → d < tail → getD scratch d 0 ≡ getD scratch₀ d 0)
+Inv-loop table i n tail scratch₀ k j₀ end₀ scratch j end =
+    (j ≤ k) × (tail ≤ end) × (end ≤ length scratch₀) × (length scratch ≡ length scratch₀)
+    × (settle (seenAt table i j) (take n scratch) (slice tail end scratch) (drop j (refsAt table i)) ≡ settle [] (take n scratch₀) [] (refsAt table i))
+    × ((d : ℕ) → n ≤ d → d < tail → getD scratch d 0 ≡ getD scratch₀ d 0)
+    × ((d : ℕ) → end ≤ d → getD scratch d 0 ≡ getD scratch₀ d 0)
 
 abbrev μ-loop : tie.MeasureT-loop
 μ-loop table i n tail scratch₀ k j₀ end₀ scratch j end = k - j
@@ -28,7 +32,7 @@ loop-holds : tie.Need-loop-holds Inv-loop μ-loop
 unfolding seenAt
 loop-holds c =
     let s = c .before .before .before in
-    (omega arith, omega arith, omega arith, refl, rw (slice-empty (s .args .tail) (s .args .scratch .now)) refl, λ d a b. refl)
+    (omega arith, omega arith, omega arith, refl, rw (slice-empty (s .args .tail) (s .args .scratch .now)) refl, λ d a b. refl, λ d a. refl)
 
 add-field : tie.Need-add-field Inv-loop μ-loop
 add-field c = omega arith
@@ -81,6 +85,11 @@ loop-again c =
       ap length es ∙ wait-length (l .scratch) (r .result) (l .end) ∙ l .inv .3,
       rw (es, ee) (settle-turn-new (s .args .table .now) (s .args .i) (l .j) (r .result) (s .pre .0) h (r .ensures) (l .scratch) (s .args .n) (s .args .tail) (l .end) hr hn (l .inv .1) he X (l .inv .4) e fits),
       λ d a b. ap (λ (m : List ℕ). getD m d 0) es ∙ wait-kept (l .scratch) (r .result) (s .args .n) (s .args .tail) (l .end) hr hn (l .inv .1) he d a b ∙ l .inv .5 d a b,
+      λ d a.
+          let f : waitEnd (l .scratch) (r .result) (l .end) ≤ d = rw ee at a in
+          let g : l .end ≤ d = omega (arith, wait-from (l .scratch) (r .result) (l .end)) in
+          let on = wait-behind (l .scratch) (r .result) (s .args .n) (s .args .tail) (l .end) hr hn (l .inv .1) he d f in
+          ap (λ (m : List ℕ). getD m d 0) es ∙ on ∙ l .inv .6 d g,
     ))
     (λ w.
     let e = sym (not-false _ (w .0 .left)) ∙ c .before .named .ensures in (
@@ -90,6 +99,7 @@ loop-again c =
       ap length (w .1) ∙ l .inv .3,
       rw (w .1, w .2) (settle-turn-old (s .args .table .now) (s .args .i) (l .j) (r .result) (s .pre .0) h (r .ensures) (l .scratch) (s .args .n) (s .args .tail) (l .end) hr hn (l .inv .1) he X (l .inv .4) e),
       λ d a b. ap (λ (m : List ℕ). getD m d 0) (w .1) ∙ l .inv .5 d a b,
+      λ d a. ap (λ (m : List ℕ). getD m d 0) (w .1) ∙ l .inv .6 d (rw (w .2) at a),
     ))
     (c .if1 .came)
 
@@ -100,7 +110,8 @@ returns : tie.Need-returns Inv-loop μ-loop
 returns c =
     let s : tie.Start Inv-loop μ-loop = search needs in
     let l = c .before .loop in
-    record { from = l .inv .1; within = omega arith; settled = sym (l .inv .4) ∙ rw (refs-end (s .args .table .now) (s .args .i) (l .j) (s .pre .0) (omega arith)) refl; kept = l .inv .5 }
+    let none = refs-end (s .args .table .now) (s .args .i) (l .j) (s .pre .0) (omega arith) in
+    record { from = l .inv .1; within = omega arith; settled = sym (l .inv .4) ∙ rw none refl; kept = l .inv .5; behind = l .inv .6 }
 
 pub settle-spec : {M : Type 1} → statement M
 settle-spec =
