@@ -16,5 +16,6 @@ one-is-set flag r s p q = one-content p q
 pub one-holds : (len bits : ℕ) (r s : Bool) → r ≡ leb bits (8 * len) → s ≡ leb bits (8 * len) → r ≡ s
 one-holds len bits r s p q = one-content p q
 
-pub one-wire-cell : (flag bits : ℕ) (own refs : List ℕ) (r s : CellBuilder) → builderOf r ≡ wireCell flag bits own refs → builderOf s ≡ wireCell flag bits own refs → r ≡ s
+pub one-wire-cell : (flag bits : ℕ) (own refs : List ℕ) (r s : CellBuilder)
+    → builderOf r ≡ wireCell flag bits own refs → builderOf s ≡ wireCell flag bits own refs → r ≡ s
 one-wire-cell flag bits own refs r s p q = one-answer builderOf builder-inj r s p q
