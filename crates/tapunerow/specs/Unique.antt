@@ -2,6 +2,7 @@
 use Prim.Native.Nat.{ℕ}
 use mathlib.Core.Path.{_≡_}
 use mathlib.Core.List.{List}
+use Rattle.scheme.specs.Crc.{crcOf}
 use Rattle.laws.specs.OneAnswer.{one-content}
 use Rattle.tapunerow.specs.Promises.{WireClears, WireAdds, WireAsks, WireCopies, WireReads, WireWrites, WireMeasures, WirePrints}
 
@@ -54,3 +55,6 @@ module _ (n : ℕ) (t d : List ℕ) where
       → (r₁ ≡ r₂) × (s₁ ≡ s₂) × (o₁ ≡ o₂) × (a₁ ≡ a₂)
   one-text i budget s o r₁ r₂ s₁ s₂ o₁ o₂ a₁ a₂ p q =
       (one-content (p .number) (q .number), one-content (p .scratch) (q .scratch), one-content (p .out) (q .out), one-content (p .entries) (q .entries))
+
+pub one-crc32c : (bs : List ℕ) (r s : ℕ) → r ≡ crcOf bs → s ≡ crcOf bs → r ≡ s
+one-crc32c bs r s p q = one-content p q
