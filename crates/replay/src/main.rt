@@ -255,13 +255,34 @@ fn run_cases(
     }
 }
 
+// The memory at most. Each part comes from a function, so that its type says its length and no proof counts its elements.
+fn reply_room() -> [u8; MAX_REPLY] {
+    [0u8; MAX_REPLY]
+}
+
+fn table_room() -> [u32; MAX_ROWS] {
+    [0u32; MAX_ROWS]
+}
+
+fn bytes_room() -> [u8; MAX_BLOCKS] {
+    [0u8; MAX_BLOCKS]
+}
+
+fn scratch_room() -> [u32; MAX_ENTRIES] {
+    [0u32; MAX_ENTRIES]
+}
+
+fn all_room() -> [u8; MAX_ALL] {
+    [0u8; MAX_ALL]
+}
+
 fn main() {
-    let mut reply = [0u8; MAX_REPLY];
-    let mut table = [0u32; MAX_ROWS];
-    let mut bytes = [0u8; MAX_BLOCKS];
-    let mut scratch = [0u32; MAX_ENTRIES];
+    let mut reply = reply_room();
+    let mut table = table_room();
+    let mut bytes = bytes_room();
+    let mut scratch = scratch_room();
     let mut roots = [0u32; MAX_ROOMS];
-    let mut all = [0u8; MAX_ALL];
+    let mut all = all_room();
     run_cases(
         &mut reply,
         &mut table,

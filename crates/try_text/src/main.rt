@@ -1,9 +1,18 @@
 // Runs text and depth on real memory at their limits: a path of 256 references and of 257, budgets, room, a pruned branch, each refusal.
 use builder::CellBuilder;
 use depth::Depth;
+use scheme::DATA_LEN;
 use scheme::MAX_CELLS;
+use scheme::RECORD_LEN;
 use store::Added;
 use text::Text;
+
+// The records of the store.
+const CELLS: usize = 300;
+
+const TABLE_LEN: usize = CELLS * RECORD_LEN;
+
+const BYTES_LEN: usize = CELLS * DATA_LEN;
 
 // The references of the longest path that is built.
 const PATH: u32 = 257;
@@ -15,6 +24,19 @@ const ROOM: usize = 2821;
 
 // The cells that refer to the one before twice.
 const TWICE: u32 = 16;
+
+// The memory of the store, and the output. Each comes from a function, so that its type says its length and no proof counts its elements.
+fn table_room() -> [u32; TABLE_LEN] {
+    [0u32; TABLE_LEN]
+}
+
+fn bytes_room() -> [u8; BYTES_LEN] {
+    [0u8; BYTES_LEN]
+}
+
+fn out_room() -> [u8; ROOM] {
+    [0u8; ROOM]
+}
 
 fn add(count: &mut usize, table: &mut [u32], bytes: &mut [u8], cell: CellBuilder) -> u32 {
     match store::add(count, table, bytes, cell) {
@@ -75,7 +97,7 @@ fn try_text(
         return;
     }
     let mut scratch = [0u32; ENTRIES];
-    let mut out = [0u8; ROOM];
+    let mut out = out_room();
     show::text(b"text: ");
     match text::debug_text(
         count,
@@ -156,8 +178,8 @@ fn wide(x: u32) -> usize {
 
 fn main() {
     let mut count: usize = 0;
-    let mut table = [0u32; 2100];
-    let mut bytes = [0u8; 38400];
+    let mut table = table_room();
+    let mut bytes = bytes_room();
     let path = add_path(&mut count, &mut table, &mut bytes);
     let twice = add_twice(&mut count, &mut table, &mut bytes);
     let branch = add(&mut count, &mut table, &mut bytes, pruned());

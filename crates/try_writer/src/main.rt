@@ -15,6 +15,8 @@ const ROOM: usize = 256;
 const SCRATCH: usize = 1024;
 
 const OUT: usize = 1600;
+// Records of the store that holds the web.
+const WEB: usize = 128;
 // Bags up to this length are printed whole.
 const SHORT: usize = 150;
 // The first bytes of a longer one.
@@ -25,6 +27,28 @@ const TAIL: usize = 4;
 const USED: u32 = 7;
 
 const BEFORE: u8 = 0xee;
+
+// The memory of the largest store, the data of the web, the scratch and the output. Each comes from a function, so that its type says its length and no
+// proof counts its elements.
+fn table_room() -> [u32; ROOM * RECORD_LEN] {
+    [0u32; ROOM * RECORD_LEN]
+}
+
+fn bytes_room() -> [u8; ROOM * DATA_LEN] {
+    [0u8; ROOM * DATA_LEN]
+}
+
+fn web_bytes_room() -> [u8; WEB * DATA_LEN] {
+    [0u8; WEB * DATA_LEN]
+}
+
+fn scratch_room() -> [u32; SCRATCH] {
+    [USED; SCRATCH]
+}
+
+fn out_room() -> [u8; OUT] {
+    [BEFORE; OUT]
+}
 
 fn wide(x: u32) -> usize {
     x as usize
@@ -142,8 +166,8 @@ fn show_same(bag: &[u8], out: &[u8], long: usize) {
 // Writes cell n of a store with the options of the bag, and compares with it.
 fn write_again(bag: &[u8], count: usize, table: &[u32], bytes: &[u8], n: usize) {
     let args = args_of(bag);
-    let mut scratch = [USED; SCRATCH];
-    let mut out = [BEFORE; OUT];
+    let mut scratch = scratch_room();
+    let mut out = out_room();
     let r = writer::serialize(count, table, bytes, n, args, &mut scratch, &mut out);
     match r {
         Wrote::Bytes(long) => {
@@ -156,7 +180,7 @@ fn write_again(bag: &[u8], count: usize, table: &[u32], bytes: &[u8], n: usize) 
 // Reads a bag into this empty store.
 fn read_into(bag: &[u8], table: &mut [u32], bytes: &mut [u8]) {
     let mut count = 0;
-    let mut scratch = [USED; SCRATCH];
+    let mut scratch = scratch_room();
     let mut roots = [0u32; 1];
     let r = reader::unpack_fully(bag, &mut count, table, bytes, &mut scratch, &mut roots);
     match r {
@@ -183,8 +207,8 @@ fn read_short(bag: &[u8]) {
 }
 
 fn read_long(bag: &[u8]) {
-    let mut table = [0u32; ROOM * RECORD_LEN];
-    let mut bytes = [0u8; ROOM * DATA_LEN];
+    let mut table = table_room();
+    let mut bytes = bytes_room();
     read_into(bag, &mut table, &mut bytes);
 }
 
@@ -280,8 +304,8 @@ fn write_within(
     entries: usize,
     room: usize,
 ) {
-    let mut scratch = [USED; SCRATCH];
-    let mut out = [BEFORE; OUT];
+    let mut scratch = scratch_room();
+    let mut out = out_room();
     write_into(
         count,
         table,
@@ -447,8 +471,8 @@ fn write_chain(name: &[u8], count: usize, table: &[u32], bytes: &[u8], n: usize)
 }
 
 fn try_chains() {
-    let mut table = [0u32; ROOM * RECORD_LEN];
-    let bytes = [0u8; ROOM * DATA_LEN];
+    let mut table = table_room();
+    let bytes = bytes_room();
     set_chain(&mut table, 255);
     write_chain(b"chain of 255", 255, &table, &bytes, 254);
     set_link(&mut table, 255);
@@ -522,16 +546,16 @@ fn set_first_bytes(bytes: &mut [u8], n: usize) {
 }
 
 fn write_web(table: &[u32], bytes: &[u8]) {
-    write_all(b"web", 128, table, bytes, 127);
-    write(b"part", 128, table, bytes, 99, with(true, false));
-    write(b"part", 128, table, bytes, 64, with(false, true));
+    write_all(b"web", WEB, table, bytes, WEB - 1);
+    write(b"part", WEB, table, bytes, 99, with(true, false));
+    write(b"part", WEB, table, bytes, 64, with(false, true));
 }
 
 fn try_web() {
-    let mut table = [0u32; 128 * RECORD_LEN];
-    let mut bytes = [0u8; 128 * DATA_LEN];
-    set_web(&mut table, 128);
-    set_first_bytes(&mut bytes, 128);
+    let mut table = [0u32; WEB * RECORD_LEN];
+    let mut bytes = web_bytes_room();
+    set_web(&mut table, WEB);
+    set_first_bytes(&mut bytes, WEB);
     write_web(&table, &bytes);
 }
 

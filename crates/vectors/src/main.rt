@@ -4,19 +4,16 @@ ghost use mathlib.Core.Path.{_≡_};
 ghost use Prim.Native.Nat.{_*_, _≤_, _<_};
 ghost use lib.ListN.{length};
 use libc::STDIN_FILENO;
-use report::MAX_INPUT;
 use scheme::DATA_LEN;
 use scheme::RECORD_LEN;
-use tell::OUT_LEN;
 use tell::ROOTS_LEN;
 use tell::SCRATCH_PER_CELL;
+use tell::input_room;
+use tell::out_room;
 use tell::tell;
 
 // The bytes in front of a reply.
 const HEAD_LEN: usize = 6;
-
-// The bytes of a reply at most, and one more, by which one that is too long is known.
-const INPUT_LEN: usize = MAX_INPUT + 1;
 
 // The cells of a store at most.
 const CELLS: usize = 512;
@@ -99,14 +96,27 @@ fn tell_next(
     true
 }
 
+// The memory of the largest store. Each part comes from a function, so that its type says its length and no proof counts its elements.
+fn table_room() -> [u32; TABLE_LEN] {
+    [0u32; TABLE_LEN]
+}
+
+fn bytes_room() -> [u8; BYTES_LEN] {
+    [0u8; BYTES_LEN]
+}
+
+fn scratch_room() -> [u32; SCRATCH_LEN] {
+    [0u32; SCRATCH_LEN]
+}
+
 // A loop that is proved has to end, so the turns count down, from a number that no run uses up.
 fn main() {
-    let mut input = [0u8; INPUT_LEN];
-    let mut table = [0u32; TABLE_LEN];
-    let mut bytes = [0u8; BYTES_LEN];
-    let mut scratch = [0u32; SCRATCH_LEN];
+    let mut input = input_room();
+    let mut table = table_room();
+    let mut bytes = bytes_room();
+    let mut scratch = scratch_room();
     let mut roots = [0u32; ROOTS_LEN];
-    let mut out = [0u8; OUT_LEN];
+    let mut out = out_room();
     let mut turns = u64::MAX;
     while turns > 0
         && tell_next(

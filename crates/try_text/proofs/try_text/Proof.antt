@@ -14,6 +14,9 @@ returns c = search needs
 returns-2 : tie.Need-returns-2
 returns-2 c = search needs
 
+out-room-requires : tie.Need-out-room-requires
+out-room-requires c κs = search needs
+
 slice-aggregate-text : tie.Need-slice-aggregate-text
 slice-aggregate-text c = search needs
 
@@ -35,8 +38,8 @@ array-borrow-prefix-out c = search needs
 slice-aggregate-debug-text-2 : tie.Need-slice-aggregate-debug-text-2
 slice-aggregate-debug-text-2 c =
     let start : tie.Start = search needs in
-    let h : start .args .room ≤ 2821 = omega arith in
-    sym (length-take-le (start .args .room) (replicate 2821 0) h)
+    let at-out-room : tie.After-out-room = search needs in
+    sym (length-take-le (start .args .room) (at-out-room .out-room .result) (omega arith))
 
 debug-text-requires : tie.Need-debug-text-requires
 debug-text-requires c κs = search needs
@@ -80,6 +83,7 @@ try-text-spec =
     (tie.spec
     returns
     returns-2
+    out-room-requires
     slice-aggregate-text
     text-requires
     array-borrow-prefix-scratch

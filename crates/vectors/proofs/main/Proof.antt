@@ -1,5 +1,5 @@
 -- `vectors::main` is safe and ends: the memory keeps its lengths, and the measure is the number of turns that are left. Assumes nothing.
-use mathlib.Core.Path.{_≡_, refl, _∙_}
+use mathlib.Core.Path.{_≡_, _∙_}
 use native.Mathlib.Omega.{arith}
 use lib.ListN.{length}
 use borrow.Author.Needs.{needs}
@@ -13,8 +13,23 @@ Inv-loop input₀ table₀ bytes₀ scratch₀ roots₀ out₀ turns₀ input ta
 abbrev μ-loop : tie.MeasureT-loop
 μ-loop input₀ table₀ bytes₀ scratch₀ roots₀ out₀ turns₀ input table bytes scratch roots out turns = turns
 
+input-room-requires : tie.Need-input-room-requires Inv-loop μ-loop
+input-room-requires c κs = search needs
+
+table-room-requires : tie.Need-table-room-requires Inv-loop μ-loop
+table-room-requires c κs = search needs
+
+bytes-room-requires : tie.Need-bytes-room-requires Inv-loop μ-loop
+bytes-room-requires c κs = search needs
+
+scratch-room-requires : tie.Need-scratch-room-requires Inv-loop μ-loop
+scratch-room-requires c κs = search needs
+
+out-room-requires : tie.Need-out-room-requires Inv-loop μ-loop
+out-room-requires c κs = search needs
+
 loop-holds : tie.Need-loop-holds Inv-loop μ-loop
-loop-holds c = (refl, refl, refl, refl, refl, refl)
+loop-holds c = search needs
 
 slice-aggregate-tell-next : tie.Need-slice-aggregate-tell-next Inv-loop μ-loop
 slice-aggregate-tell-next c = search needs
@@ -63,6 +78,11 @@ main-spec =
     (tie.spec
     Inv-loop
     μ-loop
+    input-room-requires
+    table-room-requires
+    bytes-room-requires
+    scratch-room-requires
+    out-room-requires
     loop-holds
     slice-aggregate-tell-next
     slice-aggregate-tell-next-2
