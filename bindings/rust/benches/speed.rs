@@ -7,6 +7,8 @@
 //! Stores are brought back to what they held outside the timing. The library writes into lent buffers that are not cleared
 //! between calls; the plain implementation allocates what it answers, as its callers would have it do.
 
+include!(concat!(env!("CARGO_MANIFEST_DIR"), "/src/linked.rs"));
+
 #[path = "../tests/make/mod.rs"]
 mod make;
 #[path = "../tests/model/mod.rs"]

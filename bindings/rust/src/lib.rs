@@ -18,6 +18,9 @@
 //!
 //! [`Store`] owns its memory; [`lent`] has the same calls on memory that the caller lends.
 
+#[cfg(any(test, doctest))]
+include!(concat!(env!("CARGO_MANIFEST_DIR"), "/src/linked.rs"));
+
 mod ffi;
 pub mod lent;
 mod refusal;

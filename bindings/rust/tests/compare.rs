@@ -5,6 +5,8 @@
 //! More than a million calls a run, all decided by a seed; it prints what it ran and stops at the first difference.
 //! TAPUNEROW_SEED sets another seed, TAPUNEROW_TIMES multiplies the random families.
 
+include!(concat!(env!("CARGO_MANIFEST_DIR"), "/src/linked.rs"));
+
 mod make;
 mod model;
 

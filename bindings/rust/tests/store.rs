@@ -1,5 +1,7 @@
 //! The safe face of the library: `Store` and `Refusal`.
 
+include!(concat!(env!("CARGO_MANIFEST_DIR"), "/src/linked.rs"));
+
 use tapunerow::{crc32c, Cell, Options, Read, Refusal, Store};
 
 const PLAIN: Options = Options { has_idx: false, has_crc32c: false };
