@@ -114,11 +114,6 @@ module _ {A B : Type 0} (R : A → B → Type 0) where
   both-pick xs ys z w [] h r = tt
   both-pick xs ys z w (n ∷ rs) h r = (both-at xs ys z w n h r, both-pick xs ys z w rs h r)
 
-  -- at the numbers of a list
-  pub both-map : (F : ℕ → A) (G : ℕ → B) (rs : List ℕ) → ((n : ℕ) → R (F n) (G n)) → Both R (map F rs) (map G rs)
-  both-map F G [] h = tt
-  both-map F G (n ∷ rs) h = (h n, both-map F G rs h)
-
   -- the steps keep R at each cell up to m: so do the values
   module _ (f : Cell → List A → A) (g : Cell → List B → B) (z : A) (w : B) (cs : ℕ → Cell) (m : ℕ) (r : R z w)
       (step : (i : ℕ) → i ≤ m → (xs : List A) (ys : List B) → length xs ≡ length (cs i .refs) → Both R xs ys → R (f (cs i) xs) (g (cs i) ys)) where

@@ -6,7 +6,7 @@ use mathlib.Core.List.{List}
 use lib.Dec.{ltb}
 use lib.ListN.{length, getD, set}
 use Rattle.scheme.specs.Res.{Res}
-use Rattle.laws.specs.OneAnswer.{one-answer, one-content}
+use Rattle.laws.specs.OneAnswer.{one-answer, one-content, one-pair}
 use Rattle.records.specs.declared.CellRecord.{CellRecord}
 use Rattle.records.specs.declared.RecordRead.{RecordRead}
 use Rattle.records.specs.declared.RecordAdded.{RecordAdded}
@@ -16,9 +16,6 @@ use Rattle.records.specs.Answers.{readOf, addedOf, readPaper, addedPaper
 -- the answer x, and what the lent table holds afterwards, y
 abbrev Both : {A B : Type 0} → A → B → A → B → Type 0
 Both x y a c = (a ≡ x) × (c ≡ y)
-
-both : {A B : Type 0} {x a b : A} {y c d : B} → Both x y a c → Both x y b d → (a ≡ b) × (c ≡ d)
-both p q = (one-content (p .0) (q .0), one-content (p .1) (q .1))
 
 module _ (ys : List CellRecord) (n count : ℕ) (r : CellRecord) where
   pub one-count : (a b : ℕ) → a ≡ length ys → b ≡ length ys → a ≡ b
@@ -39,7 +36,7 @@ module _ (ys : List CellRecord) (n count : ℕ) (r : CellRecord) where
 
   pub one-store : (a b : Bool) (ys₁ ys₂ : List CellRecord) → Both (ltb n (length ys)) (set ys n r) a ys₁ → Both (ltb n (length ys)) (set ys n r) b ys₂
       → (a ≡ b) × (ys₁ ≡ ys₂)
-  one-store a b ys₁ ys₂ p q = both p q
+  one-store a b ys₁ ys₂ p q = one-pair p q
 
   pub one-append : (a b : RecordAdded) (ys₁ ys₂ : List CellRecord) → (addedPaper a ≡ adds) × (ys₁ ≡ set ys count r)
       → (addedPaper b ≡ adds) × (ys₂ ≡ set ys count r) → (a ≡ b) × (ys₁ ≡ ys₂)
@@ -51,7 +48,7 @@ module _ (xs : List ℕ) (ys : List CellRecord) (n : ℕ) where
 
   pub one-export : (a b : ℕ) (ys₁ ys₂ : List CellRecord) → Both room (exportRecs xs room ys) a ys₁ → Both room (exportRecs xs room ys) b ys₂
       → (a ≡ b) × (ys₁ ≡ ys₂)
-  one-export a b ys₁ ys₂ p q = both p q
+  one-export a b ys₁ ys₂ p q = one-pair p q
 
   pub one-import : (a b : ℕ) (xs₁ xs₂ : List ℕ) → Both room (importRecs ys room xs) a xs₁ → Both room (importRecs ys room xs) b xs₂ → (a ≡ b) × (xs₁ ≡ xs₂)
-  one-import a b xs₁ xs₂ p q = both p q
+  one-import a b xs₁ xs₂ p q = one-pair p q

@@ -4,7 +4,7 @@ use Prim.Native.Nat.{ℕ, _+_, _≤_}
 use mathlib.Core.List.{List}
 use lib.ListN.{length}
 use Rattle.scheme.specs.Text.{digits}
-use Rattle.laws.specs.OneAnswer.{one-content}
+use Rattle.laws.specs.OneAnswer.{one-content, one-pair}
 use Rattle.laws.specs.Puts.{puts}
 
 -- the number of n's digits
@@ -14,4 +14,4 @@ one-width n r q a b = one-content (a .0) (b .0)
 -- the next place, and the output o afterwards
 pub one-decimal : (o : List ℕ) (at n r q : ℕ) (o₁ o₂ : List ℕ) → (r ≡ at + length (digits 20 n)) × (o₁ ≡ puts o at (digits 20 n))
     → (q ≡ at + length (digits 20 n)) × (o₂ ≡ puts o at (digits 20 n)) → (r ≡ q) × (o₁ ≡ o₂)
-one-decimal o at n r q o₁ o₂ a b = (one-content (a .0) (b .0), one-content (a .1) (b .1))
+one-decimal o at n r q o₁ o₂ = one-pair
