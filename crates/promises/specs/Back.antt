@@ -15,6 +15,7 @@ use Rattle.writer.specs.Paper.{Serialized}
 use Rattle.writer.specs.declared.BagOfCellsArgs.{BagOfCellsArgs}
 use Rattle.writer.specs.declared.Wrote.the-variants.{Bytes}
 use Rattle.reader.specs.Paper.{Reads, paper-inj}
+use Rattle.reader.specs.declared.Counts.{Counts}
 use Rattle.reader.specs.declared.ReadAnswer.{ReadAnswer}
 use Rattle.reader.specs.declared.ReadAnswer.the-variants.{Done}
 use Rattle.tapunerow.specs.Accepted.{zero-accepted, write-answer}
@@ -28,6 +29,10 @@ use Rattle.promises.specs.Steps.{Ran, ran-demand-3}
 -- how many cells the bag of cell `root` lists
 abbrev pub listed : Memory → ℕ → ℕ
 listed m root = length (orderOf (cells m) root)
+
+-- what a read of len bytes counts that finds all cells of that bag in the store
+abbrev pub all-found : Memory → ℕ → ℕ → Counts
+all-found m root len = record { used = len; cells = listed m root; roots = 1; added = 0 }
 
 -- what a read leaves that finds all cells: the store m as it was, the scratch 0, `root` in the first root place
 pub record Leaves (m m′ : Memory) (root : ℕ) (s rs s′ rs′ : List ℕ) : Type 0 where
@@ -45,7 +50,7 @@ pub record WrittenBack (m : Memory) (root : ℕ) : Type 0 where
       → (whole : Bool) (rs r : List ℕ) → 2 * listed m root ≤ length rs → 1 ≤ length r
       → (a : ReadAnswer) (m′ : Memory) (rs′ r′ : List ℕ)
       → Reads whole (m .count) (m .table) (m .bytes) rs r (take len o) a (m′ .count) (m′ .table) (m′ .bytes) rs′ r′
-      → (a ≡ Done (record { used = len; cells = listed m root; roots = 1; added = 0 })) × Leaves m m′ root rs r rs′ r′
+      → (a ≡ Done (all-found m root len)) × Leaves m m′ root rs r rs′ r′
   -- the same of `tapunerow_write` and `tapunerow_read`
   pub wire-bag : (idx crc : ℕ) (s out : List ℕ) (len : ℕ) (s′ o : List ℕ) → WireWrites idx crc (m .count) (m .table) (m .bytes) root s out 0 s′ o (len ∷ [])
       → Writes (not (eqb idx 0)) (not (eqb crc 0)) (cells m) root (take len o)
@@ -87,14 +92,15 @@ module _ (m : Memory) (D : Demand3 m) (root : ℕ) where
       → (writing (not (eqb idx 0)) (not (eqb crc 0)) (m .count) (m .table) (m .bytes) root s out) .answer ≡ ok len
   wire-answer idx crc s out len s′ o p =
       let x = (writing (not (eqb idx 0)) (not (eqb crc 0)) (m .count) (m .table) (m .bytes) root s out) .answer in
-      taken x len (zero-accepted x (write-answer (m .count) (m .table) (m .bytes) (not (eqb idx 0)) (not (eqb crc 0)) root s out) (sym (p .number))) (p .entries)
+      let numbered = write-answer (m .count) (m .table) (m .bytes) (not (eqb idx 0)) (not (eqb crc 0)) root s out in
+      taken x len (zero-accepted x numbered (sym (p .number))) (p .entries)
 
   written-back : WrittenBack m root
   written-back = record {
     bag = λ args s out len s′ o p. bag-is (args .«has_idx») (args .«has_crc32c») s out len o (sym (p .answer)) (p .out);
     back = λ args s out len s′ o p whole rs r h g a m′ rs′ r′ q.
         let e = read-is (args .«has_idx») (args .«has_crc32c») whole s out len o rs r (sym (p .answer)) (p .out) h g in (
-          one-answer _ paper-inj a (Done (record { used = len; cells = listed m root; roots = 1; added = 0 })) (q .answer ∙ ap (λ (y : ReadOut). y .answer) e) refl,
+          one-answer _ paper-inj a (Done (all-found m root len)) (q .answer ∙ ap (λ (y : ReadOut). y .answer) e) refl,
           leaves m′ len rs r rs′ r′ _ e (q .count) (q .table) (q .bytes) (q .scratch) (q .roots),
         );
     wire-bag = λ idx crc s out len s′ o p. bag-is (not (eqb idx 0)) (not (eqb crc 0)) s out len o (wire-answer idx crc s out len s′ o p) (p .out);

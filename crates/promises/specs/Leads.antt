@@ -6,17 +6,18 @@ use mathlib.Core.Bool.{Bool, true, false, cond}
 use mathlib.Core.List.{List, [], _∷_}
 use lib.ListN.{length, set}
 use lib.Dec.{leb}
+use borrow.Author.Tests.{le-leb}
 use Rattle.scheme.specs.Refusals.{CUT}
 use Rattle.scheme.specs.Res.{Res, bad, ok, check, refusal}
-use Rattle.scheme.specs.Builder.{Builder}
-use Rattle.scheme.specs.Calls.{StoreOut, clearing, adding, reading}
-use Rattle.scheme.specs.Program.{ReportOut, told, tooLong, readLines, maxInput, afresh, reporting}
+use Rattle.scheme.specs.Memory.{sized}
+use Rattle.scheme.specs.Calls.{clearing, adding}
+use Rattle.scheme.specs.Program.{ReportOut, maxInput, reporting}
 use Rattle.laws.specs.Accept.{Small}
 use Rattle.laws.specs.Add.{Typed}
 use Rattle.add_many.specs.Many.{ManyOut, builderAt, afterOne, many}
 use Rattle.wire.specs.Wire.{wireCell}
 use Rattle.tapunerow.specs.Outcomes.{unless, offering}
-use Rattle.theorems.specs.Histories.{Memory, Call, clear, add-cell, read-bag, left, leftRead, after, TypedCall, Reached, called}
+use Rattle.theorems.specs.Histories.{Memory, Call, clear, add-cell, read-bag, left, after, TypedCall, Reached, cleared, called}
 
 abbrev pub memory : ℕ → List ℕ → List ℕ → Memory
 memory n t d = record { count = n; table = t; bytes = d }
@@ -80,6 +81,10 @@ many-leads hs ds (suc k) i n t d xs T =
 abbrev pub leftReport : ReportOut → Memory
 leftReport o = record { count = o .count; table = o .table; bytes = o .bytes }
 
+clearing-accepted : (n : ℕ) (t d : List ℕ) → sized t d ≡ true → (clearing n t d) .answer ≡ ok tt
+unfolding clearing
+clearing-accepted n t d e = rw e
+
 -- one of two memories
 either : (b : Bool) (m : Memory) (x y : ReportOut) → Leads m (leftReport x) → Leads m (leftReport y) → Leads m (leftReport (cond b x y))
 either true m x y h g = h
@@ -93,12 +98,21 @@ report-leads m scratch roots out reply S =
     (record { calls = clear ∷ read-bag true scratch roots reply ∷ []; typed = (tt, (S, tt)); to = refl })
     (record { calls = []; typed = tt; to = refl })
 
+-- of memory that has a store's lengths it is a clearing that is accepted, and so a start, unless the reply is too long
+pub report-starts : (m : Memory) (scratch roots out reply : List ℕ) → Small reply → sized (m .table) (m .bytes) ≡ true → length reply ≤ maxInput
+    → Reached after (leftReport (reporting (m .count) (m .table) (m .bytes) scratch roots out reply))
+unfolding reporting
+report-starts m scratch roots out reply S e h =
+    rw (le-leb (length reply) maxInput h) (called (after m clear) (read-bag true scratch roots reply) (cleared m (clearing-accepted (m .count) (m .table) (m .bytes) e)) S)
+
 -- ---- tapunerow_add: an add, or nothing where the data is too short
 
-pub offer-leads : (m : Memory) (flag bits : ℕ) (own refs : List ℕ) → Typed (wireCell flag bits own refs) → Leads m (left (offering (m .count) (m .table) (m .bytes) flag bits own refs))
+pub offer-leads : (m : Memory) (flag bits : ℕ) (own refs : List ℕ) → Typed (wireCell flag bits own refs)
+    → Leads m (left (offering (m .count) (m .table) (m .bytes) flag bits own refs))
 unfolding offering
 offer-leads m flag bits own refs T = go (leb bits (8 * length own))
   where
-    go : (b : Bool) → Leads m (left (unless (m .count) (m .table) (m .bytes) (check b (refusal CUT 0)) (adding (m .count) (m .table) (m .bytes) (wireCell flag bits own refs))))
+    go : (b : Bool)
+        → Leads m (left (unless (m .count) (m .table) (m .bytes) (check b (refusal CUT 0)) (adding (m .count) (m .table) (m .bytes) (wireCell flag bits own refs))))
     go true = one-call m (add-cell (wireCell flag bits own refs)) T
     go false = record { calls = []; typed = tt; to = refl }

@@ -27,10 +27,12 @@ small-zeros (suc k) z (there m) = small-zeros k z m
 -- the cell that C hands over, of bytes
 pub wire-typed : (flag bits : ℕ) (own refs : List ℕ) → Small own → Typed (wireCell flag bits own refs)
 unfolding wireCell fit
-wire-typed flag bits own refs S = record {
-  many = omega (arith, length-append (take 128 own) (replicate {A = ℕ} (128 - length own) 0), length-take 128 own, length-replicate {A = ℕ} (128 - length own) 0);
-  small = small-append (take 128 own) (replicate {A = ℕ} (128 - length own) 0) (λ x m. S x (mem-take 128 own x m)) (small-zeros (128 - length own));
-}
+wire-typed flag bits own refs S =
+    let zeros = replicate {A = ℕ} (128 - length own) 0 in
+    record {
+      many = omega (arith, length-append (take 128 own) zeros, length-take 128 own, length-replicate {A = ℕ} (128 - length own) 0);
+      small = small-append (take 128 own) zeros (λ x m. S x (mem-take 128 own x m)) (small-zeros (128 - length own));
+    }
 
 lesser-fits : (x y : ℕ) → (lesserOf x y ≤ x) × (lesserOf x y ≤ y)
 lesser-fits x y = go (ltb x y) refl

@@ -1,4 +1,5 @@
--- Demand 2 (docs/DEMANDS.md), the grammar: a bag is accepted exactly when its bytes are a text of the scheme.
+-- Demand 2 (docs/DEMANDS.md), the grammar: a bag is accepted exactly when its bytes are a text of the grammar, which is looser than the scheme in three
+-- places (Grammar).
 -- Assumes nothing.
 use mathlib.Core.Path.{_≡_}
 use mathlib.Core.Logic.{_↔_}

@@ -1,4 +1,4 @@
--- Worked texts: what the grammar, the fields and the places of cut replies come to on the bags of the rules' list of numbers.
+-- Worked texts: what the grammar, the fields and the places of cut replies come to on worked bags of the rules.
 use mathlib.Core.Path.{_≡_, refl}
 use Prim.Native.Nat.{ℕ}
 use mathlib.Core.Bool.{true, false}

@@ -308,6 +308,10 @@ WritesListing wrote =
 abbrev pub listsTwice : Bool → Bool → List Cell → ℕ → List ℕ
 listsTwice has-idx has-crc s root = bagBytes has-idx has-crc (bagCells s (root ∷ orderOf s root))
 
+-- wrong: nothing is written, so that there is nothing to read back
+abbrev pub writesNothing : Bool → Bool → List Cell → ℕ → List ℕ
+writesNothing has-idx has-crc s root = []
+
 -- the definition
 abbrev writer : Bool → Bool → List Cell → ℕ → List ℕ
 writer = write
@@ -332,14 +336,24 @@ pair-fit zero h = empty-fit [] (omega arith)
 pair-fit (suc zero) h = empty-fit (0 ∷ 0 ∷ []) (omega arith)
 pair-fit (suc (suc x)) h = absurd (omega arith)
 
-pub lists-twice-shut-out : ¬ WritesListing listsTwice
-unfolding write bagBytes body cellBytes orderOf
-lists-twice-shut-out H =
+-- what another writer writes that meets the same of the first cell of the pair
+same-bytes : (wrote : Bool → Bool → List Cell → ℕ → List ℕ) → WritesListing wrote → wrote false false pair 0 ≡ write false false pair 0
+same-bytes wrote H =
     let W = H false false pair 0 pair-low pair-fit (omega arith) (omega arith) in
     let R = writes false false pair 0 pair-low pair-fit (omega arith) (omega arith) in
     let text : List ℕ → List ℕ = λ o. serialized (headFor false false (listed pair o)) (listed pair o) in
-    let q : listsTwice false false pair 0 ≡ write false false pair 0 = W .text ∙ ap text (W .order ∙ sym (R .order)) ∙ sym (R .text) in
-    let n : _≡_ {A = ℕ} 2 1 = ap (λ (l : List ℕ). getD l 6 0) q in
+    W .text ∙ ap text (W .order ∙ sym (R .order)) ∙ sym (R .text)
+
+pub writes-nothing-shut-out : ¬ WritesListing writesNothing
+unfolding write bagBytes body cellBytes orderOf
+writes-nothing-shut-out H =
+    let n : _≡_ {A = ℕ} 0 0xb5 = ap (λ (l : List ℕ). getD l 0 0) (same-bytes writesNothing H) in
+    omega arith
+
+pub lists-twice-shut-out : ¬ WritesListing listsTwice
+unfolding write bagBytes body cellBytes orderOf
+lists-twice-shut-out H =
+    let n : _≡_ {A = ℕ} 2 1 = ap (λ (l : List ℕ). getD l 6 0) (same-bytes listsTwice H) in
     omega arith
 
 -- ---- text and depth
