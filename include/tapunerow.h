@@ -15,7 +15,8 @@
  * in answer[0] and 0 in the other entries. The refusals of a call are named in the order in which they are tested. The scratch is all 0 after every
  * call that takes it; a refusal changes no other lent memory but the answer, and no call writes more than it says.
  *
- * Every function is proved to do what is said here: the contracts are in crates/tapunerow/specs/Promises.antt.
+ * Every function is proved to do what is said here: the contracts are in crates/tapunerow/specs/Promises.antt. They do not speak of the stack:
+ * tapunerow_text takes up to a quarter of a megabyte of it, every other call less than 8 KB.
  */
 #ifndef TAPUNEROW_H
 #define TAPUNEROW_H

@@ -31,10 +31,10 @@ fn processor(archive: &[u8]) -> Option<u16> {
 /// Why the archive cannot be linked for this target, in one line, or nothing if it can.
 fn why_not(archive: &Path) -> Option<String> {
     let Ok(bytes) = fs::read(archive) else {
-        return Some(format!("libtapunerow.a is missing: {MAKE_IT}"));
+        return Some(format!("{} is missing: {MAKE_IT}", archive.display()));
     };
     let Some(number) = processor(&bytes) else {
-        return Some(format!("libtapunerow.a is no archive of ELF objects: {MAKE_IT}"));
+        return Some(format!("{} is no archive of ELF objects: {MAKE_IT}", archive.display()));
     };
     let of_target = |name| env::var(name).unwrap_or_default();
     let (arch, os, target) = (of_target("CARGO_CFG_TARGET_ARCH"), of_target("CARGO_CFG_TARGET_OS"), of_target("TARGET"));
@@ -43,7 +43,7 @@ fn why_not(archive: &Path) -> Option<String> {
         return None;
     }
     let other = "TAPUNEROW_LIB may name the folder of another archive";
-    Some(format!("libtapunerow.a is for Linux on {made_for}, and the target is {target}: it cannot be linked; {other}"))
+    Some(format!("{} is for Linux on {made_for}, and the target is {target}: it cannot be linked; {other}", archive.display()))
 }
 
 fn main() {

@@ -34,7 +34,7 @@ fn hex(text: &str) -> Vec<u8> {
     digits.chunks(2).map(|pair| (pair[0] * 16 + pair[1]) as u8).collect()
 }
 
-/// The diamond of 01.
+/// The diamond of docs/RULES.md.
 fn diamond() -> Bag {
     let cells = [(vec![0xaa], vec![1, 2]), (vec![0xbb], vec![3]), (vec![0xcc], vec![3]), (vec![], vec![])];
     Bag::new(&[0], cells.iter().map(|(data, refs)| Frame::of(data, refs)).collect())
