@@ -1,13 +1,12 @@
 -- The turns of `add_each`, over plain variables. Assumes nothing.
-use Prim.Native.Nat.{ℕ, suc, _+_, _*_, _/_, _-_, _<_, _≤_}
+use Prim.Native.Nat.{ℕ, suc, _+_, _*_, _-_, _<_, _≤_}
 use mathlib.Core.Path.{_≡_, refl, sym, ap, subst, _∙_}
-use mathlib.Core.Bool.{Bool, true, false, not, cond}
+use mathlib.Core.Bool.{Bool, true, false, not}
 use mathlib.Core.List.{List, [], _∷_, _++_, append-nil}
 use native.Mathlib.Numerals.{add-one}
 use native.Mathlib.Omega.{arith}
 use lib.ListN.{length, getD, take, drop, set, length-take, length-drop}
-use lib.Dec.{eqb, leb, ltb}
-use borrow.Author.Tests.{ltb-true, ltb-false}
+use lib.Dec.{eqb, leb}
 use Rattle.scheme.specs.Refusals.{STORE, REFS, FULL, BITS}
 use Rattle.scheme.specs.declared.Refusal.{Refusal}
 use Rattle.scheme.specs.Res.{Res, bad, ok, then, check, refusal}
@@ -25,11 +24,11 @@ use Rattle.laws.specs.Adding.{adding-holds}
 use Rattle.store.specs.Paper.{Adds}
 use Rattle.store.specs.declared.Added.{Added as Answer}
 use Rattle.store.specs.declared.Added.the-variants.{Number, Refused}
-use Rattle.add_many.specs.Many.{lesserOf, cellsIn, builderAt, stop, ManyOut, afterOne, many, manyPaper, AddsMany}
+use Rattle.add_many.specs.Many.{builderAt, stop, ManyOut, afterOne, many, manyPaper, AddsMany}
 use Rattle.add_many.specs.declared.AddedMany.{AddedMany}
 use Rattle.add_many.specs.declared.AddedMany.the-variants as added
 
--- ---- `cell_at`, `cells_in`
+-- ---- `cell_at`
 
 pub block-copied : (ds b x : List ℕ) (p : ℕ) → p + 128 ≤ length ds → length b ≡ 128 → x ≡ puts b 0 (take (p + 128 - p) (drop p ds)) → x ≡ take 128 (drop p ds)
 block-copied ds b x p h l e =
@@ -52,28 +51,6 @@ pub builder-is : (hs ds : List ℕ) (i len m : ℕ) (x : List ℕ) → x ≡ tak
     } ≡ builderAt hs ds i
 unfolding builderAt
 builder-is hs ds i len m x xe le me = rw (xe, le, me)
-
-lesser-left : (x y : ℕ) → lesserOf x y ≤ x
-lesser-left x y = go (ltb x y) refl
-  where
-    go : (b : Bool) → ltb x y ≡ b → cond b x y ≤ x
-    go true e = omega arith
-    go false e = ltb-false x y e
-
-lesser-right : (x y : ℕ) → lesserOf x y ≤ y
-lesser-right x y = go (ltb x y) refl
-  where
-    go : (b : Bool) → ltb x y ≡ b → cond b x y ≤ y
-    go true e = let h = ltb-true x y e in omega arith
-    go false e = omega arith
-
-pub cells-fit : (a b c k : ℕ) → k ≡ cellsIn a b c → (k * 7 ≤ a) × (k * 128 ≤ b) × (k ≤ c)
-cells-fit a b c k e =
-    let p = lesser-left (lesserOf (a / 7) (b / 128)) c in
-    let q = lesser-right (lesserOf (a / 7) (b / 128)) c in
-    let r = lesser-left (a / 7) (b / 128) in
-    let s = lesser-right (a / 7) (b / 128) in
-    (omega arith, omega arith, omega arith)
 
 -- the number of an added cell is that of a record
 number-small : (cap n : ℕ) (t d : List ℕ) (b : Builder) (x : Added) → add cap (cellsOf n t d) b ≡ ok x → sound n t d ≡ true → x .number ≤ 4096

@@ -20,7 +20,7 @@ small-cons : (y : ℕ) (l : List ℕ) → y < 256 → Small l → Small (y ∷ l
 small-cons y l h S x (here e) = rw e h
 small-cons y l h S x (there m) = S x m
 
-small-append : (a b : List ℕ) → Small a → Small b → Small (a ++ b)
+pub small-append : (a b : List ℕ) → Small a → Small b → Small (a ++ b)
 small-append [] b S T = T
 small-append (y ∷ ys) b S T = small-cons y (ys ++ b) (S y (here refl)) (small-append ys b (λ x m. S x (there m)) T)
 

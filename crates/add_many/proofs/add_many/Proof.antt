@@ -2,7 +2,8 @@
 use mathlib.Core.Path.{sym, _∙_}
 use lib.ListN.{length}
 use borrow.Author.Tests.{not-true, not-false}
-use Rattle.add_many.proofs.Turn.{cells-fit, many-none, many-store, many-as}
+use Rattle.add_many.specs.Batch.{cells-fit}
+use Rattle.add_many.proofs.Turn.{many-none, many-store, many-as}
 use borrow.Author.Needs.{needs}
 use Rattle.add_many.proofs.add_many.Statement.{statement}
 use Rattle.add_many.proofs.add_many.Tie as tie
