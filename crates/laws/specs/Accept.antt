@@ -1,4 +1,4 @@
--- What an accepted read says of its bytes: the cells are whole, fit to be stored, and linked.
+-- What an accepted read says of its bytes, field by field. That its cells are whole, fit to be stored, and linked is in proofs/Accept.
 -- Assumes nothing.
 use Rattle.std.specs.Prelude.{◌≡◌, refl, ◌≢◌, ℕ, zero, suc, ◌+◌, ◌-◌, ◌*◌, ◌/◌, ◌%◌, ◌^◌, ◌≤◌, ◌<◌, Bool, true, false, cond, not, ◌||◌, ◌&&◌, length, take, drop, get_or, eqb, leb, ltb}
 use Rattle.std.proofs.Common.{ap, not-suc-le-zero, arith, length-drop, leb-true, ltb-true, eqb-true, length-take-le}
@@ -7,9 +7,9 @@ use mathlib.Core.List.Memᴰ.{tail as there}
 use mathlib.Core.List.{List, [], ◌∷◌, map, Memᴰ as Mem}
 use Rattle.std.proofs.lemmas.Bool.{eqb-false, not-true}
 use Rattle.laws.specs.Tests.{and_left, and_right}
-use Rattle.scheme.specs.Refusals.{CUT, REFS, PADDING, EXTRA, BACK, RANGE, ROOT, FULL}
+use Rattle.scheme.specs.Refusals.{CUT, REFS, PADDING, BACK, RANGE, ROOT}
 use Rattle.scheme.specs.Cells.{Cell}
-use Rattle.scheme.specs.Bag.{load, header, hashes, Bits, bits, raw_cell, raw_cells, refs_ok, links, roots_ok, checksum, read, Got, Counts, Past, root_list, index, bag, Bag}
+use Rattle.scheme.specs.Bag.{load, hashes, Bits, bits, raw_cell, refs_ok, links, roots_ok, Got, Past, Bag}
 use Rattle.laws.specs.Meaning.{Linked}
 use Rattle.scheme.specs.Bytes.{unbe, chunk, field, fields}
 use Rattle.scheme.specs.Bits.{zeros, last_of, unmark}
@@ -174,20 +174,6 @@ cell-fit b size p c e S =
     let q : record { exotic = d1 / 8 % 2; len = w.len; bytes = w.bytes; refs = rs } ≡ c.it = cc in
     rw (← q) (record { flag = omega arith; few = W.few; many = W.many; small = W.small; clean = W.clean; arity = omega arith })
 
-pub cells_fit : (b : List ℕ) (size n p : ℕ) (c : Past (List Cell)) → raw_cells b size n p ≡ ok c → Small b → (length c.it ≡ n) × ((d : Cell) → Mem d c.it → Fit d)
-cells_fit b size zero p c e S = let q : [] ≡ c.it = cc in rw (← q) (refl, λ d m. elim m [ ])
-cells_fit b size (suc n) p c e S =
-    then_use (raw_cell b size p) _ _ e λ f x₁ e₁.
-    then_use (raw_cells b size n f.next) _ _ e₁ λ r x₂ e₂.
-    let ih = cells_fit b size n f.next r x₂ S in
-    let F = cell-fit b size p f x₁ S in
-    let q : f.it ∷ r.it ≡ c.it = cc in
-    rw (← q) (ap suc ih.0, λ d m. go f.it r.it F ih.1 d m)
-  where
-    go : (x : Cell) (xs : List Cell) → Fit x → ((d : Cell) → Mem d xs → Fit d) → (d : Cell) → Mem d (x ∷ xs) → Fit d
-    go x xs F G d (here e) = rw e F
-    go x xs F G d (there m) = G d m
-
 refs-inv : (i n : ℕ) (rs : List ℕ) (u : Unit {0}) → refs_ok i n rs ≡ ok u → (r : ℕ) → Mem r rs → (i < r) × (r < n)
 refs-inv i n [] u e r m = elim m [ ]
 refs-inv i n (y ∷ ys) u e r m =
@@ -221,22 +207,6 @@ pub record Whole (g : Bag) : Type 0 where
   pub linked : Linked 0 g.cells
   pub inside : (r : ℕ) → Mem r g.roots → r < length g.cells
 
-pub bag-inv : (whole : Bool) (scratch room : ℕ) (b : List ℕ) (g : Bag) → Small b → bag whole scratch room b ≡ ok g → Whole g
-unfolding bag
-bag-inv whole scratch room b g S e =
-    then_use (header scratch room b) _ _ e λ h x₁ e₁.
-    then_use (root_list b h) _ _ e₁ λ roots x₂ e₂.
-    then_use (index b h roots.next) _ _ e₂ λ p x₃ e₃.
-    then_use (raw_cells b h.shape.size h.cells p.next) _ _ e₃ λ c x₄ e₄.
-    then_use (checksum h.shape.has_crc b c.next) _ _ e₄ λ end x₅ e₅.
-    then_use (check (not whole || leb (length b) end) (refusal EXTRA end)) _ _ e₅ λ u₆ x₆ e₆.
-    then_use (links 0 h.cells c.it) _ _ e₆ λ u₇ x₇ e₇.
-    then_use (roots_ok 0 h.cells roots.it) _ _ e₇ λ u₈ x₈ e₈.
-    let C = cells_fit b h.shape.size h.cells p.next c x₄ S in
-    let q₁ : c.it ≡ g.cells = cc in
-    let q₂ : roots.it ≡ g.roots = cc in
-    rw (← q₁, ← q₂) (record { fit = C.1; linked = links-inv 0 h.cells c.it u₇ x₇ (omega (arith, C.0)); inside = λ r m. rw C.0 (roots-inv 0 h.cells roots.it u₈ x₈ r m) })
-
 -- an accepted read: the bag, and what was stored
 pub record Accepted (cap : ℕ) (s : List Cell) (g : Got) : Type 0 where
   pub bag : Bag
@@ -247,22 +217,3 @@ pub record Accepted (cap : ℕ) (s : List Cell) (g : Got) : Type 0 where
   pub names-is : g.names ≡ map (λ (r : ℕ). get_or (load s 0 bag.cells).nums r 0) bag.roots
   pub added_is : g.counts.added ≡ length g.store - length s
   pub free : length g.store ≤ cap
-
-pub read-inv : (whole : Bool) (scratch room cap : ℕ) (s : List Cell) (b : List ℕ) (g : Got) → Small b → read whole scratch room cap s b ≡ ok g → Accepted cap s g
-unfolding read
-read-inv whole scratch room cap s b g S e =
-    then_use (bag whole scratch room b) _ _ e λ a x₁ e₁.
-    then_use (check (leb (length (load s 0 a.cells).store) cap) (refusal FULL 0)) _ _ e₁ λ u₂ x₂ e₂.
-    let free = leb-true (length (load s 0 a.cells).store) cap (check_inv (leb (length (load s 0 a.cells).store) cap) (refusal FULL 0) u₂ x₂) in
-    let q₀ : g.counts ≡ record { used = a.used; cells = length a.cells; roots = length a.roots; added = length (load s 0 a.cells).store - length s } = cc in
-    let q₃ : g.store ≡ (load s 0 a.cells).store = cc in
-    record {
-      bag = a;
-      whole = bag-inv whole scratch room b a S x₁;
-      cells_is = ap (λ (c : Counts). c.cells) q₀;
-      roots-is = ap (λ (c : Counts). c.roots) q₀;
-      store_is = q₃;
-      names-is = cc;
-      added_is = rw q₃ (ap (λ (c : Counts). c.added) q₀);
-      free = rw q₃ free;
-    }

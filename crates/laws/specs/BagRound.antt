@@ -32,7 +32,7 @@ pub cells-back : {b : List ℕ} (size : ℕ) {p : ℕ} (vs : List Leveled) (l : 
 cells-back size {p} [] l F R A = ap ok (past_path _ _ refl (omega arith))
 cells-back size {p} (v ∷ vs) l F R A =
     let A₁ = at_same (cell_bytes size v ++ (all_bytes size vs ++ l)) A (append_assoc (cell_bytes size v) (all_bytes size vs) l) in
-    let ih = cells-back size vs l (λ d m. F d (there m)) (λ d m. R d (there m)) (at_next (cell_bytes size v) (all_bytes size vs ++ l) (length (cell_bytes size v)) A₁ refl) in
+    let ih = cells-back size {p = p + length (cell_bytes size v)} vs l (λ d m. F d (there m)) (λ d m. R d (there m)) (at_next (cell_bytes size v) (all_bytes size vs ++ l) (length (cell_bytes size v)) A₁ refl) in
     let next : p + length (cell_bytes size v) + length (all_bytes size vs) ≡ p + length (all_bytes size (v ∷ vs)) = omega (arith, length-append (cell_bytes size v) (all_bytes size vs)) in
     rw (cell-back size v (all_bytes size vs ++ l) (F v (here refl)).0 (F v (here refl)).1 (R v (here refl)) A₁, ih) (ap ok (past_path _ _ refl next))
 
@@ -124,6 +124,7 @@ checksum-back {b} true p t C A e =
     rw (f₁, f₂) (ap ok (at-end (at_next (le 4 c) [] 4 A₁ refl)))
 
 linked-mem : (i : ℕ) (cs : List Cell) → Linked i cs → (c : Cell) → Mem c cs → (r : ℕ) → Mem r c.refs → r < i + length cs
+linked-mem i [] L c x3 r m = elim x3 [ ]
 linked-mem i (d ∷ ds) L c (here e) r m = let g = (L.0 r (rw e at m)).1 in omega arith
 linked-mem i (d ∷ ds) L c (there n) r m = omega (arith, linked-mem (suc i) ds L.1 c n r m)
 
@@ -150,6 +151,7 @@ pub record Fits (scratch room cap : ℕ) (s : List Cell) (vs : List Leveled) : T
   pub free : length (load s 0 (plain vs)).store ≤ cap
 
 mem-plain : (vs : List Leveled) (v : Leveled) → Mem v vs → Mem v.cell (plain vs)
+mem-plain [] v x' = elim x' [ ]
 mem-plain (w ∷ ws) v (here e) = here (ap (λ (x : Leveled). x.cell) e)
 mem-plain (w ∷ ws) v (there m) = there (mem-plain ws v m)
 

@@ -119,9 +119,9 @@ length-refs size (r ∷ rs) = omega (arith, length-append (be size r) (all_be si
 
 pub refs-back : {b : List ℕ} (size : ℕ) {p : ℕ} (rs l : List ℕ) → At b p (all_be size rs ++ l) → ((r : ℕ) → Mem r rs → r < 256 ^ size) → fields b size (length rs) p ≡ ok rs
 refs-back size [] l A h = refl
-refs-back size (r ∷ rs) l A h =
+refs-back {b = b} size {p = p} (r ∷ rs) l A h =
     let A₁ = at_same (be size r ++ (all_be size rs ++ l)) A (append_assoc (be size r) (all_be size rs) l) in
-    let ih = refs-back size rs l (at_next (be size r) (all_be size rs ++ l) size A₁ (length-be size r)) (λ x m. h x (there m)) in
+    let ih = refs-back size {p = p + size} rs l (at_next (be size r) (all_be size rs ++ l) size A₁ (length-be size r)) (λ x m. h x (there m)) in
     rw (field-be size r (all_be size rs ++ l) A₁ (h r (here refl)), ih)
 
 half_up : (q u : ℕ) → q ≤ u → u ≤ q + 1 → (q + u + 1) / 2 ≡ u

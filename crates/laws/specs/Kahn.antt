@@ -17,6 +17,7 @@ Ready kids R L c = (p : ℕ) → Mem p R → Mem c (kids p) → Mem p L
 
 module _ (kids : ℕ → List ℕ) where
   pub ready-true : (R L : List ℕ) (c : ℕ) → ready kids R L c ≡ true → Ready kids R L c
+  ready-true [] L c e p x3 m = elim x3 [ ]
   ready-true (y ∷ ys) L c e p (here q) m = memb-true p L (go (bool_cases (memb y L)))
     where
       a : (not (memb c (kids y)) || memb y L) ≡ true
@@ -102,6 +103,7 @@ module _ (kids : ℕ → List ℕ) where
         go (inr r) = inr (there r.0, r.1)
 
     pub join-all : (cs q : List ℕ) (x : ℕ) → Mem x cs → Ready kids R L x → Mem x (join kids R L q cs)
+    join-all [] q x x4 h = elim x4 [ ]
     join-all (c ∷ cs) q x (here e) h = join-keep cs (grown q c) x (rw e (grown-new q c (rw e at h)))
     join-all (c ∷ cs) q x (there m) h = join-all cs (grown q c) x m h
 

@@ -13,7 +13,7 @@ use Rattle.std.proofs.Math.Seq.{get_or-take, take-take, length-take-le}
 use Rattle.std.proofs.Math.Dec.{eqb, ltb}
 use borrow.Author.Tests.{eqb-true, eq-eqb, le-leb, lt-ltb, le-ltb, ltb-true, ltb-false}
 use Rattle.scheme.specs.Bits.{bytes_for}
-use Rattle.scheme.specs.Cells.{Cell, blank, at, find, insert}
+use Rattle.scheme.specs.Cells.{Cell, blank, find, insert}
 use Rattle.scheme.specs.Memory.{cell_at, cells_of, all_below, all_zero, sound_ref, tail_zero, sound_cell, sized, sound, row_of, block_of, rows, blocks, lay_table, lay_bytes}
 use Rattle.laws.specs.Tests.{and_left, and_right}
 use Rattle.laws.specs.Puts.{puts, puts-parts}

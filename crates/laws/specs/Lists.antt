@@ -28,6 +28,7 @@ rest-is p l = take_all (length l - p) (drop p l) (simp length-drop (omega arith)
 
 -- a member of a map is the image of a member
 pub mem-map {ℓ κ} : {A : Type ℓ} {B : Type κ} (f : A → B) (l : List A) (y : B) → Mem y (map f l) → (x : A) × Mem x l × (y ≡ f x)
+mem-map {A = A} {B = B} f [] y x' = elim x' [ ]
 mem-map f (x ∷ xs) y (here e) = (x, here refl, e)
 mem-map f (x ∷ xs) y (there m) = let r = mem-map f xs y m in (r.0, there r.1, r.2)
 
@@ -48,5 +49,6 @@ mem-at (x ∷ xs) zero h = here refl
 mem-at (x ∷ xs) (suc k) h = there (mem-at xs k (le_of_suc-le-suc h))
 
 pub mem-place : (l : List ℕ) (x : ℕ) → Mem x l → (j : ℕ) × (j < length l) × (x ≡ get_or l j 0)
+mem-place [] x x3 = elim x3 [ ]
 mem-place (y ∷ ys) x (here e) = (0, omega arith, e)
 mem-place (y ∷ ys) x (there m) = let r = mem-place ys x m in let h = r.1 in (suc r.0, omega arith, r.2)

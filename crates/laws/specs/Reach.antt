@@ -9,7 +9,7 @@ use mathlib.Core.List.{List, [], ◌∷◌, Memᴰ as Mem}
 use Rattle.laws.specs.Tests.{bool_cases, true-false, memb-true, memb-of}
 use Rattle.scheme.specs.Order.{memb, is_child, reach_down, reached, order, kids_of, order_of}
 use Rattle.laws.specs.Distinct.{Nodup}
-use Rattle.scheme.specs.Cells.{Cell, at}
+use Rattle.scheme.specs.Cells.{Cell}
 use Rattle.laws.specs.Unique.{Low}
 use Rattle.laws.specs.Kahn.{Graph, Good, Later, kahn}
 
@@ -28,6 +28,7 @@ module _ (kids : ℕ → List ℕ) where
       go false q e ih = let r = ih e in (r.0, there r.1, r.2)
 
   is_child-of : (ps : List ℕ) (n p : ℕ) → Mem p ps → Mem n (kids p) → is_child kids ps n ≡ true
+  is_child-of [] n p x'' k = elim x'' [ ]
   is_child-of (y ∷ ys) n p (here e) k = rw (memb-of n (kids y) (rw e at k))
   is_child-of (y ∷ ys) n p (there m) k = go (memb n (kids y)) (is_child-of ys n p m k)
     where

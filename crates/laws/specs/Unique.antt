@@ -1,6 +1,6 @@
--- In a store that is built by adding cells, equal numbers are equal structures.
+-- Stores that are built by adding cells, and the structures of their cells. That equal structures have equal numbers is in proofs/Unique.
 -- Assumes nothing.
-use Rattle.std.specs.Prelude.{◌≡◌, refl, ◌⊎◌, ℕ, zero, suc, ◌+◌, ◌≤◌, ◌<◌, Bool, true, false, cond, length, ltb}
+use Rattle.std.specs.Prelude.{◌≡◌, refl, ◌⊎◌, ℕ, zero, suc, ◌≤◌, ◌<◌, Bool, true, false, cond, length, ltb}
 use Rattle.std.proofs.Common.{sym, ◌∙◌, subst, inl, inr, le_of_suc-le-suc, not-suc-le-zero, arith, length-append, ltb-true, ltb-false}
 use mathlib.Core.List.Memᴰ.{head as here}
 use mathlib.Core.List.Memᴰ.{tail as there}
@@ -8,7 +8,7 @@ use mathlib.Core.List.{List, [], ◌∷◌, ◌++◌, Memᴰ as Mem}
 use Rattle.std.proofs.Math.ListN.{get_or-append}
 use Rattle.std.proofs.Math.Seq.{get_or-append_seam}
 use Rattle.laws.specs.Tests.{bool_cases, true-false}
-use Rattle.scheme.specs.Cells.{Cell, Tree, blank, at, forest, unfolded, tree, same, find, insert}
+use Rattle.scheme.specs.Cells.{Cell, Tree, blank, at, forest, unfolded, same, find, insert}
 use Rattle.laws.specs.CellLaws.{cell_path, same_true, same_refl}
 
 pub find-le : (s : List Cell) (c : Cell) → find s c ≤ length s
@@ -104,13 +104,6 @@ sound-append s c S f B = record { low = λ i h. low i (place-cases s c i h); dis
     distinct i j (inr p) (inl g) e = absurd (fresh j g (sym (at_old s c j g) ∙ sym e ∙ rw p (at_new s c)))
     distinct i j (inr p) (inr q) e = p ∙ sym q
 
-pub sound-insert : (s : List Cell) (c : Cell) → Sound s → Below (length s) c.refs → Sound (insert s c)
-sound-insert s c S B = go (find_cases s c)
-  where
-    go : (find s c < length s) ⊎ (find s c ≡ length s) → Sound (insert s c)
-    go (inl h) = rw (insert-old s c h) S
-    go (inr e) = rw (insert-new s c e) (sound-append s c S e B)
-
 forest_inj : (f : ℕ → Tree) (l m : List ℕ) → ((x y : ℕ) → Mem x l → Mem y m → f x ≡ f y → x ≡ y) → forest f l ≡ forest f m → l ≡ m
 forest_inj f [] [] inj e = refl
 forest_inj f [] (y ∷ ys) inj e = cc
@@ -130,7 +123,3 @@ unfolded_inj s S (suc k) i j hi hj gi gj e =
     unfolded_inj s S k x y (omega (arith, S.low i gi x m)) (omega (arith, S.low j gj y n)) (omega (arith, S.low i gi x m)) (omega (arith, S.low j gj y n)) q in
     let p = forest_inj (λ (r : ℕ). unfolded k s r) (at s i).refs (at s j).refs inj kids in
     S.distinct i j gi gj (cell_path (at s i) (at s j) (cc) (cc) (cc) p)
-
--- two numbers are equal exactly when the two cells unfold to the same structure
-pub unique : (s : List Cell) → Sound s → (i j : ℕ) → i < length s → j < length s → tree s i ≡ tree s j → i ≡ j
-unique s S i j hi hj e = unfolded_inj s S (length s) i j hi hj hi hj e

@@ -1,1 +1,2 @@
-// Laws that the proofs cite. They are in specs/; there is no code.
+// Laws that the proofs cite. They are in specs/ and proofs/; there is no code.
+#![tactic(auto)]

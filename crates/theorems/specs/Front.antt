@@ -1,6 +1,6 @@
 -- The front of a text of bytes: what is read of it is what is read of the whole text, or a field of it is not whole.
 -- Assumes nothing.
-use Rattle.std.specs.Prelude.{◌≡◌, ℕ, zero, suc, ◌+◌, ◌-◌, ◌*◌, ◌/◌, ◌%◌, ◌≤◌, ◌<◌, Bool, cond, length, drop, replicate, eqb}
+use Rattle.std.specs.Prelude.{◌≡◌, ℕ, zero, suc, ◌+◌, ◌*◌, ◌/◌, ◌%◌, ◌≤◌, ◌<◌, Bool, cond, length, drop, replicate, eqb}
 use Rattle.std.proofs.Math.Path.{refl}
 use Rattle.std.proofs.Common.{sym, ap, ◌∙◌, arith, length-take-le}
 use Rattle.std.proofs.Math.Bool.{true, false}
@@ -12,13 +12,13 @@ use borrow.Author.Tests.{leb-true, leb-false, le-leb, lt-leb}
 use Rattle.scheme.specs.Refusals.{CUT, SIZE, OFFSET, COUNTS, CELLS, SCRATCH, ROOTROOM, REFS, CRC}
 use Rattle.scheme.specs.Res.{Res, bad, ok, then, check, refusal}
 use Rattle.scheme.specs.Bytes.{unbe, chunk, field, fields, unle}
-use Rattle.scheme.specs.Bag.{hashes, bits, raw_cell, raw_cells, Past, Header, header, numbers, checksum, read_scratch}
+use Rattle.scheme.specs.Bag.{hashes, bits, raw_cell, Past, Header, header, numbers, checksum, read_scratch}
 use Rattle.scheme.specs.Layout.{layout, tag_ok}
 use Rattle.scheme.specs.Limits.{max_cells, max_refs}
 use Rattle.scheme.specs.Crc.{crc_of}
 use Rattle.scheme.specs.Cells.{Cell}
 use Rattle.laws.specs.Accept.{then_use, check_inv}
-use Rattle.theorems.specs.Places.{total, cut_place, number_at, size_in, off_in, count_in, roots_in, idx_in, crc_in, cell_fields, cells_fields}
+use Rattle.theorems.specs.Places.{total, cut_place, number_at, size_in, off_in, count_in, roots_in, idx_in, crc_in, cell_fields}
 
 pub total-append : (us vs : List ℕ) → total (us ++ vs) ≡ total us + total vs
 total-append [] vs = omega arith
@@ -110,16 +110,6 @@ cell-next b size p c e =
     let n₂ = (field_is b (p + 1) 1 d2 x₃).1 in
     let q : c.next ≡ p + 2 + hashes d1 + (d2 + 1) / 2 + d1 % 8 * size = cc in
     rw (← n₁, ← n₂, q, total-replicate (d1 % 8) size) (omega arith)
-
-pub cells-next : (b : List ℕ) (size n p : ℕ) (c : Past (List Cell)) → raw_cells b size n p ≡ ok c → c.next ≡ p + total (cells_fields b size n p)
-cells-next b size zero p c e = let q : c.next ≡ p = cc in omega arith
-cells-next b size (suc n) p c e =
-    then_use (raw_cell b size p) _ _ e λ f x₁ e₁.
-    then_use (raw_cells b size n f.next) _ _ e₁ λ r x₂ e₂.
-    let q : c.next ≡ r.next = cc in
-    let m = cell-next b size p f x₁ in
-    let ih = cells-next b size n f.next r x₂ in
-    q ∙ ih ∙ rw m (omega (arith, total-append (cell_fields b size p) (cells_fields b size n (p + total (cell_fields b size p)))))
 
 -- what an accepted header says of the bytes
 pub record HeaderIs (b : List ℕ) (h : Header) : Type 0 where
@@ -214,17 +204,6 @@ module _ (k : ℕ) (b : List ℕ) (h : k ≤ length b) where
       front-then _ (p + 2 + hashes d1 + (d2 + 1) / 2) _ (front-chunk (p + 2 + hashes d1) ((d2 + 1) / 2) xs x₅) (omega arith) λ h₄.
       front-ok _ x₆
       (front-last _ (front-fields size (d1 % 8) (p + 2 + hashes d1 + (d2 + 1) / 2) rs x₇ h₄) e₇)))
-
-  pub front-cells : (size n p : ℕ) (c : Past (List Cell)) → raw_cells b size n p ≡ ok c → p ≤ k → Front k p (cells_fields b size n p) c (raw_cells (take k b) size n p)
-  front-cells size zero p c e g = within (omega arith) e
-  front-cells size (suc n) p c e g =
-      then_use (raw_cell b size p) _ _ e λ f x₁ e₁.
-      then_use (raw_cells b size n f.next) _ _ e₁ λ r x₂ e₂.
-      let m = cell-next b size p f x₁ in
-      front-then _ (p + total (cell_fields b size p)) _ (front-cell size p f x₁) refl λ j.
-      let q = p + total (cell_fields b size p) in
-      let F : Front k q (cells_fields b size n q) r (raw_cells (take k b) size n f.next) = rw m (front-cells size n q r (rw m at x₂) j) in
-      front-last _ F e₂
 
   pub front-header : (scratch room : ℕ) (c : Header) → header scratch room b ≡ ok c
       → Front k 0 (4 ∷ 1 ∷ 1 ∷ c.shape.size ∷ c.shape.size ∷ c.shape.size ∷ c.off ∷ []) c (header scratch room (take k b))

@@ -17,7 +17,8 @@ use Rattle.laws.specs.Accept.{Small, then_use, check_inv, mem-take, mem-drop}
 use Rattle.laws.specs.Kept.{fit-with}
 use Rattle.laws.specs.Lists.{mem-at, mem-place}
 use Rattle.laws.specs.Unique.{Below, Low}
-use Rattle.laws.specs.Meaning.{Linked, link-below, placed}
+use Rattle.laws.specs.Meaning.{Linked, link-below}
+use Rattle.laws.proofs.Meaning.{placed}
 use Rattle.laws.specs.CellRound.{Fit}
 use Rattle.laws.specs.Wf.{WfCell, Wf}
 use Rattle.laws.specs.Lay.{wf-cells, wf-insert, sound-lay}

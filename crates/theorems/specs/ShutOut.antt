@@ -1,22 +1,21 @@
 -- Programs that the theorems shut out. Each theorem is put as something that a definition may meet or not: the one that the code is proved against meets it,
--- and wrong ones, which answer every call as well, are proved not to. Demands 2 and 3 are those of docs/DEMANDS.md.
+-- and wrong ones, which answer every call as well, are proved not to, here or, where a theorem of proofs/ is cited, in proofs/ShutOut. Demands 2 and 3 are those of docs/DEMANDS.md.
 -- Assumes nothing.
-use Rattle.std.specs.Prelude.{◌≡◌, refl, ◌↔◌, ℕ, zero, suc, ◌≤◌, ◌<◌, Bool, true, false, ◌&&◌, List, [], ◌∷◌, ◌++◌, map, length, take, set, get_or, replicate, ltb}
-use Rattle.std.proofs.Common.{sym, ap, ◌∙◌, not-suc-le-zero, arith, ltb-true}
+use Rattle.std.specs.Prelude.{◌≡◌, refl, ◌↔◌, ℕ, zero, suc, ◌≤◌, ◌<◌, Bool, true, false, ◌&&◌, List, [], ◌∷◌, ◌++◌, map, length, take, set, replicate, ltb}
+use Rattle.std.proofs.Common.{not-suc-le-zero, arith, ltb-true}
 use mathlib.Core.List.Memᴰ.{head as here}
 use mathlib.Core.List.Memᴰ.{tail as there}
-use Rattle.scheme.specs.Refusals.{CUT, CRC}
+use Rattle.scheme.specs.Refusals.{CUT}
 use Rattle.scheme.specs.Limits.{max_cells}
 use Rattle.scheme.specs.Res.{Res, bad, ok, then, refusal}
 use Rattle.scheme.specs.Bytes.{chunk, field}
 use Rattle.scheme.specs.Bits.{cropped}
-use Rattle.scheme.specs.Crc.{crc_step, crc_steps, crc_byte, crc_run, crc_of}
 use Rattle.scheme.specs.Cells.{Cell, blank, with, at, tree}
 use Rattle.scheme.specs.Layout.{tag_ok, layout}
 use Rattle.scheme.specs.Builder.{new_builder, cell_in}
 use Rattle.scheme.specs.Bag.{Bag, header, numbers, root_list, index, bits, raw_cell, checksum, bag, Got, read}
 use Rattle.scheme.specs.Order.{order_of}
-use Rattle.scheme.specs.Write.{bag_cells, cell_bytes, body, bag_bytes, write}
+use Rattle.scheme.specs.Write.{bag_cells, bag_bytes, write}
 use Rattle.scheme.specs.Depth.{depth}
 use Rattle.scheme.specs.Text.{tree_size, page}
 use Rattle.scheme.specs.Memory.{cell_at, cells_of, sized, rows, blocks, lay_table, lay_bytes}
@@ -27,14 +26,12 @@ use Rattle.laws.specs.Accept.{Small}
 use Rattle.laws.specs.Add.{Typed}
 use Rattle.laws.specs.CellRound.{Fit}
 use Rattle.theorems.specs.Places.{cut_place, bag_fields}
-use Rattle.theorems.specs.Cut.{cut_replies}
-use Rattle.theorems.specs.Meaning.{Means, read-means}
-use Rattle.theorems.specs.Grammar.{Says, serialized}
-use Rattle.theorems.specs.Accepts.{grammar, Fits, accepts_read}
-use Rattle.theorems.specs.Written.{listed, head_for}
-use Rattle.theorems.specs.Writing.{Writes, writes}
-use Rattle.theorems.specs.Structure.{cells_in, printed-is-size, same_text, same-depth}
-use Rattle.theorems.specs.Histories.{Memory, cells, Call, clear, add-cell, read-bag, left, after, Reached, cleared, called, Demand3, demand_3}
+use Rattle.theorems.specs.Meaning.{Means}
+use Rattle.theorems.specs.Grammar.{Says}
+use Rattle.theorems.specs.Accepts.{Fits}
+use Rattle.theorems.specs.Writing.{Writes}
+use Rattle.theorems.specs.Structure.{cells_in, same_text, same-depth}
+use Rattle.theorems.specs.Histories.{Memory, cells, Call, clear, add-cell, read-bag, left, after, Reached, cleared, called, Demand3}
 
 -- ---- the bytes of a bag
 
@@ -60,31 +57,26 @@ abbrev pub sum_ignored : BagReader
 sum_ignored whole scratch room b = bag false scratch room (set b 4 1)
 
 -- the definition
-abbrev bag_reader : BagReader
+abbrev pub bag_reader : BagReader
 bag_reader = bag
 
-pub refuses_cut : RefusesCut bag_reader
-refuses_cut = cut_replies
-
-pub reads-grammar : ReadsGrammar bag_reader
-reads-grammar = grammar
-
-no : ¬ (◌≡◌ {A = ℕ} 0 1)
+pub no : ¬ (◌≡◌ {A = ℕ} 0 1)
 no e = omega arith
 
 abbrev are_bytes : List ℕ → Bool
 are_bytes [] = true
 are_bytes (x ∷ xs) = ltb x 256 && are_bytes xs
 
-are-small : (b : List ℕ) → are_bytes b ≡ true → Small b
+pub are-small : (b : List ℕ) → are_bytes b ≡ true → Small b
+are-small [] e y x3 = elim x3 [ ]
 are-small (x ∷ xs) e y (here q) = rw q (ltb-true x 256 (and_left (ltb x 256) (are_bytes xs) e))
 are-small (x ∷ xs) e y (there m) = are-small xs (and_right (ltb x 256) (are_bytes xs) e) y m
 
 -- the bag of an empty cell, by its byte 4 and what follows
-abbrev empty_bag : ℕ → List ℕ → List ℕ
+abbrev pub empty_bag : ℕ → List ℕ → List ℕ
 empty_bag flags rest = 0xb5 ∷ 0xee ∷ 0x9c ∷ 0x72 ∷ flags ∷ 0x01 ∷ 0x01 ∷ 0x01 ∷ 0x00 ∷ 0x02 ∷ 0x00 ∷ 0x00 ∷ 0x00 ∷ rest
 
-abbrev empty_read : Bag
+abbrev pub empty_read : Bag
 empty_read = record { used = 13; cells = blank ∷ []; roots = 0 ∷ [] }
 
 pub zero-past_shut_out : ¬ RefusesCut zero_past
@@ -93,15 +85,6 @@ zero-past_shut_out H =
     let b = empty_bag 0x01 [] in
     let e : zero_past true 2 1 (take 12 b) ≡ ok empty_read = refl in
     let h = H 2 1 b empty_read refl 12 (omega arith) true in
-    no cc
-
-pub sum_ignored_shut_out : ¬ ReadsGrammar sum_ignored
-unfolding bag header field chunk tag_ok layout root_list index numbers raw_cell bits checksum crc_of crc_run crc_byte crc_steps crc_step
-sum_ignored_shut_out H =
-    let b = empty_bag 0x41 (0 ∷ 0 ∷ 0 ∷ 0 ∷ []) in
-    let S = are-small b refl in
-    let e : bag true 2 1 b ≡ bad (refusal CRC 13) = refl in
-    let h = (reads-grammar true 2 1 b empty_read S).1 ((H true 2 1 b empty_read S).0 refl) in
     no cc
 
 -- ---- reading into a store
@@ -172,17 +155,11 @@ count_made_up = altered λ s g. record {
 }
 
 -- the definition
-abbrev reader : Reader
+abbrev pub reader : Reader
 reader = read
 
-pub reads_mean : ReadMeans reader
-reads_mean = read-means
-
-pub accepts_texts : AcceptsTexts reader
-accepts_texts = accepts_read
-
 -- a bag: a cell with the byte aa that refers to one with bb, and another one with bb
-abbrev sample : List ℕ
+abbrev pub sample : List ℕ
 sample =
     0xb5 ∷ 0xee ∷ 0x9c ∷ 0x72 ∷ 0x01 ∷ 0x01 ∷ 0x03 ∷ 0x01 ∷ 0x00 ∷ 0x0a ∷ 0x00
     ∷ 0x01 ∷ 0x02 ∷ 0xaa ∷ 0x01 ∷ 0x00 ∷ 0x02 ∷ 0xbb ∷ 0x00 ∷ 0x02 ∷ 0xbb ∷ []
@@ -193,7 +170,7 @@ byte_cell x rs = record { exotic = 0; len = 8; bytes = x ∷ []; refs = rs }
 abbrev sample_read : Bag
 sample_read = record { used = 21; cells = byte_cell 0xaa (1 ∷ []) ∷ byte_cell 0xbb [] ∷ byte_cell 0xbb [] ∷ []; roots = 0 ∷ [] }
 
-abbrev sample_got : Got
+abbrev pub sample_got : Got
 sample_got = record {
   counts = record { used = 21; cells = 3; roots = 1; added = 2 };
   names = 1 ∷ [];
@@ -204,19 +181,12 @@ sample-bag : bag true 6 1 sample ≡ ok sample_read
 unfolding bag header field chunk tag_ok layout root_list index numbers raw_cell bits checksum
 sample-bag = refl
 
-sample-read : read true 6 1 2 [] sample ≡ ok sample_got
+pub sample-read : read true 6 1 2 [] sample ≡ ok sample_got
 unfolding read
 sample-read = rw sample-bag
 
-pub refuses_every_shut_out : ¬ AcceptsTexts refuses_every
-refuses_every_shut_out H =
-    let S = are-small sample refl in
-    let r = (H true 6 1 2 [] sample S).1 ((accepts_texts true 6 1 2 [] sample S).0 (sample_got, sample-read)) in
-    let e = r.1 in
-    no cc
-
 -- what a reader that alters the answer has to mean on the sample
-sample-means : (f : List Cell → Got → Got) → ReadMeans (altered f) → Means [] sample sample_read (f [] sample_got)
+pub sample-means : (f : List Cell → Got → Got) → ReadMeans (altered f) → Means [] sample sample_read (f [] sample_got)
 sample-means f H =
     let e : altered f true 6 1 2 [] sample ≡ ok (f [] sample_got) = rw sample-read in
     let r = H true 6 1 2 [] sample (f [] sample_got) (λ i h. absurd (not-suc-le-zero h)) (are-small sample refl) e in
@@ -235,14 +205,6 @@ others_empty_shut_out H = let t = (sample-means _ H).root 0 (omega arith) in no 
 pub drops_references_shut_out : ¬ ReadMeans drops_references
 drops_references_shut_out H = let t = (sample-means _ H).root 0 (omega arith) in no cc
 
--- the bytes used are those of the sample's fields, for the definition and for a reader that is to mean the same
-pub used-made-up_shut_out : ¬ ReadMeans used_made_up
-used-made-up_shut_out H =
-    let e = (sample-means _ H).used in
-    let M = read-means true 6 1 2 [] sample sample_got (λ i h. absurd (not-suc-le-zero h)) (are-small sample refl) sample-read in
-    let f = M.2.used in
-    omega arith
-
 pub count-made-up_shut_out : ¬ ReadMeans count_made_up
 count-made-up_shut_out H = let e = (sample-means _ H).added in omega arith
 
@@ -258,11 +220,8 @@ never_finds m (add-cell b) = left (laid {A = ℕ} m.table (cells m ++ cell_in b 
 never_finds m (read-bag whole scratch roots reply) = after m (read-bag whole scratch roots reply)
 
 -- the definition
-abbrev leaves_of : Memory → Call → Memory
+abbrev pub leaves_of : Memory → Call → Memory
 leaves_of = after
-
-pub demands_3 : Demands3 leaves_of
-demands_3 = demand_3
 
 -- an empty cell is added twice to a store of two records
 abbrev start : Memory
@@ -307,48 +266,19 @@ abbrev pub writes_nothing : Bool → Bool → List Cell → ℕ → List ℕ
 writes_nothing has_idx has_crc s root = []
 
 -- the definition
-abbrev writer : Bool → Bool → List Cell → ℕ → List ℕ
+abbrev pub writer : Bool → Bool → List Cell → ℕ → List ℕ
 writer = write
 
-pub writes-listing : WritesListing writer
-writes-listing = writes
-
 -- an empty cell, and one that names it twice
-abbrev pair : List Cell
+abbrev pub pair : List Cell
 pair = blank ∷ with blank (0 ∷ 0 ∷ []) ∷ []
 
-pair-low : Low pair
+pub pair-low : Low pair
+pair-low zero h r m = elim m [ ]
 pair-low (suc zero) h r (here e) = omega arith
 pair-low (suc zero) h r (there (here e)) = omega arith
+pair-low (suc zero) h r (there (there x16)) = elim x16 [ ]
 pair-low (suc (suc i)) h r m = absurd (omega arith)
-
-empty-fit : (rs : List ℕ) → length rs ≤ 4 → Fit (with blank rs)
-empty-fit rs h = record { flag = omega arith; few = omega arith; many = refl; small = are-small [] refl; clean = λ z. absurd (z refl); arity = h }
-
-pair-fit : (x : ℕ) → x < length pair → Fit (at pair x)
-pair-fit zero h = empty-fit [] (omega arith)
-pair-fit (suc zero) h = empty-fit (0 ∷ 0 ∷ []) (omega arith)
-pair-fit (suc (suc x)) h = absurd (omega arith)
-
--- what another writer writes that meets the same of the first cell of the pair
-same_bytes : (wrote : Bool → Bool → List Cell → ℕ → List ℕ) → WritesListing wrote → wrote false false pair 0 ≡ write false false pair 0
-same_bytes wrote H =
-    let W = H false false pair 0 pair-low pair-fit (omega arith) (omega arith) in
-    let R = writes false false pair 0 pair-low pair-fit (omega arith) (omega arith) in
-    let text : List ℕ → List ℕ = λ o. serialized (head_for false false (listed pair o)) (listed pair o) in
-    W.text ∙ ap text (W.order ∙ sym R.order) ∙ sym R.text
-
-pub writes-nothing_shut_out : ¬ WritesListing writes_nothing
-unfolding write bag_bytes body cell_bytes order_of
-writes-nothing_shut_out H =
-    let n : ◌≡◌ {A = ℕ} 0 0xb5 = ap (λ (l : List ℕ). get_or l 0 0) (same_bytes writes_nothing H) in
-    omega arith
-
-pub lists-twice_shut_out : ¬ WritesListing lists_twice
-unfolding write bag_bytes body cell_bytes order_of
-lists-twice_shut_out H =
-    let n : ◌≡◌ {A = ℕ} 2 1 = ap (λ (l : List ℕ). get_or l 6 0) (same_bytes lists_twice H) in
-    omega arith
 
 -- ---- text and depth
 
@@ -369,14 +299,11 @@ abbrev pub number_for_depth : List Cell → ℕ → Res ℕ
 number_for_depth s i = ok i
 
 -- the definitions
-abbrev printed_cells : List Cell → ℕ → ℕ
+abbrev pub printed_cells : List Cell → ℕ → ℕ
 printed_cells s i = tree_size (at s) i
 
 abbrev depth_of : List Cell → ℕ → Res ℕ
 depth_of = depth
-
-pub counts-cells : CountsCells printed_cells
-counts-cells = printed-is-size
 
 pub text-of-structure : (budget room : ℕ) → OfStructure λ s i. page s i budget room
 text-of-structure budget room s u S U i j hi hj e = same_text s u S U i j hi hj e budget room
@@ -393,6 +320,8 @@ abbrev doubled : List Cell
 doubled = blank ∷ blank ∷ []
 
 doubled-low : Low doubled
+doubled-low zero h r m = elim m [ ]
+doubled-low (suc zero) h r m = elim m [ ]
 doubled-low (suc (suc i)) h r m = absurd (omega arith)
 
 pub number_for_depth_shut_out : ¬ OfStructure number_for_depth

@@ -6,11 +6,11 @@ use mathlib.Core.List.Memᴰ.{head as here}
 use mathlib.Core.List.Memᴰ.{tail as there}
 use mathlib.Core.List.{List, [], ◌∷◌, map, Memᴰ as Mem}
 use Rattle.scheme.specs.Refusals.{STORE, SCRATCH, NOCELL}
-use Rattle.scheme.specs.Res.{Res, bad, ok, check, refusal}
+use Rattle.scheme.specs.Res.{Res, ok, check, refusal}
 use Rattle.scheme.specs.Cells.{Cell, Tree, Forest, node, none, more, at, with, forest, unfolded, tree}
 use Rattle.scheme.specs.Fold.{value}
 use Rattle.scheme.specs.Depth.{is_pruned, pruned_depth, depth_step, depth}
-use Rattle.scheme.specs.Text.{text_step, sum, size_step, tree_size, height_step, page, Page}
+use Rattle.scheme.specs.Text.{text_step, size_step, height_step, page, Page}
 use Rattle.scheme.specs.Memory.{cells_of, sound, held}
 use Rattle.scheme.specs.Calls.{lent, measuring, printing, print_out}
 use Rattle.laws.specs.Unique.{Low}
@@ -57,7 +57,7 @@ module _ {A : Type 0} (f : Cell → List A → A) (z : A) (P : Plain f) (s : Lis
 plain-text : Plain text_step
 plain-text c vs = refl
 
-plain_size : Plain size_step
+pub plain_size : Plain size_step
 plain_size c vs = refl
 
 plain-height : Plain height_step
@@ -94,20 +94,6 @@ abbrev mutual
   pub cells_all : Forest → ℕ
   cells_all none = 0
   cells_all (more t ts) = cells_in t + cells_all ts
-
-mutual
-  unfolding sum
-
-  fold-size : (t : Tree) → fold_tree size_step t ≡ cells_in t
-  fold-size (node exotic len bytes kids) = ap (λ (n : ℕ). 1 + n) (fold-sizes kids)
-
-  fold-sizes : (ts : Forest) → sum (fold_forest size_step ts) ≡ cells_all ts
-  fold-sizes none = refl
-  fold-sizes (more t ts) = rw (fold-size t, fold-sizes ts)
-
--- The cells printed are those of the unfolded structure, shared ones counted each time.
-pub printed-is-size : (s : List Cell) → Low s → (i : ℕ) → i < length s → tree_size (at s) i ≡ cells_in (tree s i)
-printed-is-size s S i h = value-is-fold size_step 0 plain_size s S i h ∙ fold-size (tree s i)
 
 -- ---- the calls
 

@@ -1,6 +1,6 @@
 -- A text of the grammar is made of bytes.
 -- Assumes nothing.
-use Rattle.std.specs.Prelude.{refl, ℕ, zero, suc, ◌+◌, ◌/◌, ◌%◌, ◌≤◌, ◌<◌, Bool, true, false, cond}
+use Rattle.std.specs.Prelude.{refl, ℕ, zero, suc, ◌/◌, ◌%◌, ◌≤◌, ◌<◌, Bool, true, false, cond}
 use Rattle.std.proofs.Common.{arith}
 use mathlib.Core.List.Memᴰ.{head as here}
 use mathlib.Core.List.Memᴰ.{tail as there}

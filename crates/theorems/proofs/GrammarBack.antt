@@ -96,10 +96,10 @@ cell-back {b} size {p} c l F R A =
 pub cells-back : {b : List ℕ} (size : ℕ) {p : ℕ} (cs : List RawCell) (l : List ℕ) → ((c : RawCell) → Mem c cs → RawCellOk c)
     → ((c : RawCell) → Mem c cs → (r : ℕ) → Mem r c.refs → r < 256 ^ size) → At b p (cells_text size cs ++ l)
     → raw_cells b size (length cs) p ≡ ok (record { it = map cell_of cs; next = p + length (cells_text size cs) })
-cells-back size {p} [] l F R A = ap ok (past_path _ _ refl (omega arith))
-cells-back size {p} (c ∷ cs) l F R A =
+cells-back size {p = p} [] l F R A = ap ok (past_path _ _ refl (omega arith))
+cells-back size {p = p} (c ∷ cs) l F R A =
     let A₁ = at_same (cell_text size c ++ (cells_text size cs ++ l)) A (append_assoc (cell_text size c) (cells_text size cs) l) in
-    let ih = cells-back size cs l (λ d m. F d (there m)) (λ d m. R d (there m)) (at_next (cell_text size c) (cells_text size cs ++ l) (length (cell_text size c)) A₁ refl) in
+    let ih = cells-back size {p = p + length (cell_text size c)} cs l (λ d m. F d (there m)) (λ d m. R d (there m)) (at_next (cell_text size c) (cells_text size cs ++ l) (length (cell_text size c)) A₁ refl) in
     let next : p + length (cell_text size c) + length (cells_text size cs) ≡ p + length (cells_text size (c ∷ cs)) = omega (arith, length-append (cell_text size c) (cells_text size cs)) in
     rw (cell-back size c (cells_text size cs ++ l) (F c (here refl)) (R c (here refl)) A₁, ih) (ap ok (past_path _ _ refl next))
 
@@ -206,6 +206,7 @@ header-back {b} scratch room h n l A hz ho hf hc ht hn hm hx hr =
 
 mem-cells : (cs : List RawCell) (c : RawCell) → Mem c cs → (i : ℕ) × (i < length cs) × ((at (map cell_of cs) i).refs ≡ c.refs)
 unfolding cell_of
+mem-cells [] c x' = elim x' [ ]
 mem-cells (d ∷ ds) c (here e) = (0, omega arith, ap (λ (x : RawCell). x.refs) (sym e))
 mem-cells (d ∷ ds) c (there m) = let r = mem-cells ds c m in let h = r.1 in (suc r.0, omega arith, r.2)
 

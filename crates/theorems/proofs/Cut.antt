@@ -11,7 +11,7 @@ use Rattle.scheme.specs.Memory.{capacity, held}
 use Rattle.scheme.specs.Calls.{read_out, reading, zeroed}
 use Rattle.laws.specs.Accept.{then_use}
 use Rattle.theorems.specs.Places.{total, cut_place, NotWhole, bag_fields}
-use Rattle.theorems.specs.CutLaws.{bag-read, fields-end, bag-cut, not-whole}
+use Rattle.theorems.proofs.CutLaws.{bag-read, fields-end, bag-cut, not-whole}
 
 -- Demand 2 (docs/DEMANDS.md): the bytes used are those of the bag's fields, and lie inside the reply; in the whole reading they are all of it.
 pub used-fields : (whole : Bool) (scratch room : ℕ) (b : List ℕ) (g : Bag) → bag whole scratch room b ≡ ok g → g.used ≡ total (bag_fields b)

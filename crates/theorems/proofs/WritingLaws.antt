@@ -29,7 +29,7 @@ use Rattle.laws.specs.BagRound.{length-all, Written}
 use Rattle.laws.specs.CellRound.{cell-back as stored_back, Fit, length-padded, last-mark, all_below, all_below-true, last_mem}
 use Rattle.laws.specs.Accept.{Small}
 use Rattle.theorems.specs.Grammar.{Admissible, RawCell, RawCellOk, cell_of, refs_descriptor, bits_descriptor, cell_text, cells_text, Head, byte4, unsigned, serialized}
-use Rattle.theorems.specs.GrammarBack.{cell-back}
+use Rattle.theorems.proofs.GrammarBack.{cell-back}
 use Rattle.theorems.specs.Written.{raw_of, listed, starts, head_for}
 
 -- ---- the bytes
@@ -196,6 +196,7 @@ length-starts size p [] = refl
 length-starts size p (c ∷ cs) = ap suc (length-starts size (p + length (cell_text size c)) cs)
 
 starts-most : (size p : ℕ) (cs : List RawCell) (x : ℕ) → Mem x (starts size p cs) → x ≤ p + length (cells_text size cs)
+starts-most size p [] x x3 = elim x3 [ ]
 starts-most size p (c ∷ cs) x (here e) = omega arith
 starts-most size p (c ∷ cs) x (there m) = omega (arith, starts-most size (p + length (cell_text size c)) cs x m, length-append (cell_text size c) (cells_text size cs))
 

@@ -1,7 +1,7 @@
 -- The reading of an accepted bag, step by step, and of a front of it: it refuses CUT at the first field that is not whole.
 -- Assumes nothing.
 use Rattle.std.specs.Prelude.{◌≡◌, refl, Bool, true, false, not, ◌||◌, length, take, leb, eqb}
-use Prim.Native.Nat.{ℕ, ◌+◌, ◌-◌, ◌*◌, ◌≤◌, ◌<◌}
+use Prim.Native.Nat.{ℕ, ◌+◌, ◌*◌, ◌≤◌, ◌<◌}
 use Rattle.std.proofs.Common.{arith, leb-true, leb-false}
 use Rattle.std.proofs.Math.Bool.{cond}
 use mathlib.Core.List.{List, [], ◌∷◌, ◌++◌, append_assoc}
@@ -14,7 +14,8 @@ use Rattle.scheme.specs.Cells.{Cell}
 use Rattle.scheme.specs.Bag.{Header, header, Past, numbers, root_list, index, raw_cells, checksum, links, roots_ok, Bag, bag}
 use Rattle.laws.specs.Accept.{then_use, check_inv}
 use Rattle.theorems.specs.Places.{total, cut_place, NotWhole, cells_fields, front_fields, bag_fields}
-use Rattle.theorems.specs.Front.{Front, within, past, front-then, front-stop, total-append, total-replicate, HeaderIs, header_is, cells-next, front-header, front-numbers, front-cells, front-sum}
+use Rattle.theorems.specs.Front.{Front, within, past, front-then, front-stop, total-append, total-replicate, HeaderIs, header_is, front-header, front-numbers, front-sum}
+use Rattle.theorems.proofs.Front.{cells-next, front-cells}
 
 -- the place of the first field that ends past k is that of a field which is not whole
 pub not-whole : (k : ℕ) (us ws : List ℕ) → total us ≤ k → k < total us + total ws → NotWhole (us ++ ws) k (cut_place (total us) k ws)

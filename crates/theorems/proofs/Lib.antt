@@ -1,0 +1,11 @@
+pub mod Front
+pub mod CutLaws
+pub mod Cut
+pub mod Meaning
+pub mod GrammarBack
+pub mod Accepts
+pub mod WritingLaws
+pub mod Writing
+pub mod Structure
+pub mod Histories
+pub mod ShutOut
