@@ -1,4 +1,6 @@
 // Big-endian fields at a place of the bytes of a bag. A field that is not whole is refused with CUT at its first byte.
+#![tactic(auto)]
+
 ghost use Rattle.std.specs.Prelude.{◌≡◌, ◌+◌, ◌≤◌, length, take, drop};
 ghost use Rattle.scheme.specs.Bytes.{unbe};
 ghost use Rattle.bits.specs.Field.{field_at, byte_at, skip_at, skip_fields_at};

@@ -1,4 +1,6 @@
 // A cell in the making. Each step takes the builder by value and hands it back with the verdict, unchanged on refusal.
+#![tactic(auto)]
+
 ghost use Rattle.std.specs.Prelude.{◌≡◌, ◌+◌, ◌*◌, ◌/◌, ◌^◌, ◌<◌, ◌≤◌, leb, length, get_or, set, replicate};
 ghost use Rattle.scheme.specs.Bits.{bit_of, bytes_for, bits_of, first_bits};
 ghost use Rattle.scheme.specs.Builder.{new_builder, put_bits, appended, repeated, referred};
@@ -8,7 +10,7 @@ ghost use Rattle.builder.specs.Paper.{builder_of, longer, Builds};
 use scheme::{BITS, CUT, DATA_LEN, MAX_BITS_LEN, MAX_REFS_COUNT, REFS, Refusal};
 
 // Bits past `len`, the high one of a byte first, and references past `count` may be anything.
-#[derive(Drop)]
+#[derive(Clone, Copy)]
 pub struct CellBuilder {
     pub exotic: bool,
     pub len: usize,
@@ -17,13 +19,13 @@ pub struct CellBuilder {
     pub refs: [u32; 4],
 }
 
-#[derive(Drop)]
+#[derive(Clone, Copy)]
 pub enum Verdict {
     Done,
     Refused(Refusal),
 }
 
-#[derive(Drop)]
+#[derive(Clone, Copy)]
 pub struct Built {
     pub builder: CellBuilder,
     pub verdict: Verdict,

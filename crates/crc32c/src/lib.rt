@@ -1,9 +1,11 @@
-// CRC-32C (RFC 3720), a byte at a time over a table of 256 numbers. The rule, bit by bit, is scheme's `crcOf`.
+// CRC-32C (RFC 3720), a byte at a time over a table of 256 numbers. The rule, bit by bit, is scheme's `crc_of`.
+#![tactic(auto)]
+
 ghost use Rattle.std.specs.Prelude.{◌≡◌};
 ghost use Rattle.scheme.specs.Crc.{crc_byte, crc_run, crc_of};
 ghost use Rattle.crc32c.specs.Table.{crc_table};
 
-// What eight steps make of each byte. One computed test, where `crc_run` copies it, compares all of it with its rule, `crcTable`.
+// What eight steps make of each byte. One computed test, where `crc_run` copies it, compares all of it with its rule, `crc_table`.
 const TABLE: [u32; 256] = [
     0x0000_0000,
     0xf26b_8303,

@@ -1,4 +1,6 @@
 // What every crate does with lent memory: numbers of a record, zeroing, bytes written at a place.
+#![tactic(auto)]
+
 ghost use Rattle.std.specs.Prelude.{◌≡◌, ◌+◌, ◌*◌, ◌≤◌, ◌<◌, [], ◌∷◌, length, get_or, replicate};
 ghost use Rattle.laws.specs.Puts.{puts};
 

@@ -1,0 +1,6 @@
+-- `memory::entry` meets its contract. Assumes nothing.
+use native.Mathlib.Omega.{arith}
+use Rattle.memory.proofs.entry.Goals as goal
+
+pub overflow_cast-result : goal.overflow_cast-result
+overflow_cast-result c = omega (arith, c.type_inv.scratch c.args.i)
