@@ -1,4 +1,6 @@
 // Cells added in a row with one test of the store: what the single adds, made in turn, give.
+#![tactic(auto)]
+
 ghost use Rattle.std.specs.Prelude.{◌≡◌, true, ◌+◌, ◌*◌, ◌≤◌, length};
 ghost use Rattle.scheme.specs.Memory.{sound};
 ghost use Rattle.builder.specs.Paper.{builder_of};

@@ -1,4 +1,6 @@
 // A table with one record a cell, as a lent slice of records. The core works on the flat table of numbers; these functions read, write and copy.
+#![tactic(auto)]
+
 ghost use Rattle.std.specs.Prelude.{◌≡◌, ◌<◌, ◌≤◌, ◌+◌, ◌*◌, ltb, length, set, get_or};
 ghost use Rattle.records.specs.Answers.{read_of, added_of, read_paper, added_paper};
 ghost use Rattle.records.specs.Record.{blank, record_of, put_flat, lesser_of, room_for, export_recs, import_recs};
@@ -6,7 +8,7 @@ ghost use Rattle.records.specs.Record.{blank, record_of, put_flat, lesser_of, ro
 use scheme::{FULL, NOCELL, RECORD_LEN, Refusal};
 
 // A cell's flag, bit length, number of references, and references; unused ones are 0.
-#[derive(Drop)]
+#[derive(Clone, Copy)]
 pub struct CellRecord {
     pub exotic: u32,
     pub len: u32,

@@ -1,4 +1,6 @@
 // Whether lent memory is a sound store. Interface between crates: every public call of the library asks it once.
+#![tactic(auto)]
+
 ghost use Rattle.std.specs.Prelude.{◌≡◌, cond, ◌+◌, ◌*◌, ◌/◌, ◌≤◌, ◌<◌, length, eqb, ltb};
 ghost use Rattle.scheme.specs.Memory.{all_below, all_zero, sound_ref, tail_zero, sound_cell, sized, sound};
 ghost use Rattle.laws.specs.Records.{unused_in};

@@ -1,4 +1,6 @@
 // The cell store, on lent memory: a count, a flat table with one record of seven numbers a cell, and 128 data bytes for each record.
+#![tactic(auto)]
+
 ghost use Rattle.std.specs.Prelude.{◌≡◌, true, [], ◌++◌, ℕ, ◌+◌, ◌-◌, ◌*◌, ◌/◌, ◌≤◌, ◌<◌, length, get_or, replicate};
 ghost use Rattle.scheme.specs.Cells.{eqbs, find};
 ghost use Rattle.scheme.specs.Memory.{cells_of, sound, row_of, block_of};

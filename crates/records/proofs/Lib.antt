@@ -1,3 +1,0 @@
-mod Again
-mod Export
-mod Slots
