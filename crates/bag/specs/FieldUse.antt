@@ -1,5 +1,5 @@
 -- What a field that is there answers. Assumes nothing.
-use Rattle.std.specs.Prelude.{ℕ, ◌+◌, ◌-◌, ◌≤◌, ◌≡◌, List, length}
+use Rattle.std.specs.Prelude.{ℕ, ◌+◌, ◌≤◌, ◌≡◌, List, length}
 use Rattle.std.proofs.Common.{sym, ap, ◌∙◌, arith}
 use Rattle.scheme.specs.Res.{bad, ok}
 use Rattle.scheme.specs.declared.Refusal.{Refusal}

@@ -1,5 +1,5 @@
 -- The links of a bag, one reference, one root and one cell at a time. Assumes nothing.
-use Rattle.std.specs.Prelude.{◌≡◌, refl, ℕ, suc, ◌+◌, ◌-◌, ◌≤◌, ◌<◌, Bool, not, ◌||◌, take, get_or, leb, ltb}
+use Rattle.std.specs.Prelude.{◌≡◌, refl, ℕ, suc, ◌+◌, ◌≤◌, ◌<◌, Bool, not, ◌||◌, take, get_or, leb, ltb}
 use Rattle.std.proofs.Math.Path.{ap}
 use Rattle.std.proofs.Common.{◌∙◌, add-zero, zero-add, arith, take-suc}
 use mathlib.Core.List.{List, [], ◌∷◌, ◌++◌}

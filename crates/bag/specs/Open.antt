@@ -12,7 +12,8 @@ use Rattle.laws.specs.Accept.{then_use}
 use Rattle.laws.specs.Puts.{puts, puts-length}
 use Rattle.bits.specs.Field.{numbers_at}
 use Rattle.header.specs.Header.{header_at}
-use Rattle.header.specs.Tie.{roots_in, after_head, bag-header}
+use Rattle.header.proofs.Bag.{bag-header}
+use Rattle.header.specs.Tie.{roots_in, after_head}
 use Rattle.header.specs.Bounds.{header-within}
 use Rattle.header.specs.declared.Header.{Header}
 use Rattle.bag.specs.Places.{cells_at, places, scanned}

@@ -1,4 +1,6 @@
 // The bytes of a bag: header, cells, checksum, links and roots, in the order of a read. Nothing is stored: each cell's place is left in the scratch.
+#![tactic(auto)]
+
 ghost use Rattle.std.specs.Prelude.{◌≡◌, ℕ, ◌+◌, ◌*◌, ◌^◌, ◌≤◌, ◌<◌, length, take, drop, get_or};
 ghost use Rattle.scheme.specs.Bytes.{unle};
 ghost use Rattle.scheme.specs.Bag.{checksum, refs_ok, links, roots_ok};

@@ -15,18 +15,6 @@ use Rattle.header.specs.declared.Header.{Header}
 passed : (n m : ℕ) (r : Refusal) (u : Unit {0}) → check (leb n m) r ≡ ok u → n ≤ m
 passed n m r u e = leb-true n m (check_inv (leb n m) r u e)
 
-flags-within : (b : List ℕ) (f : Opening) → flags_at b ≡ ok f → (f.shape.size ≤ 4) × (f.off ≤ 8)
-unfolding flags_at
-flags-within b f e =
-    then_use (field_at b 0 4) _ _ e λ tag x₁ e₁.
-    then_use (tag_ok tag.it) _ _ e₁ λ u₂ x₂ e₂.
-    then_use (byte_at b tag.next) _ _ e₂ λ flags x₃ e₃.
-    then_use (check (leb (layout tag.it flags.it).size 4) (refusal SIZE 4)) _ _ e₃ λ u₄ x₄ e₄.
-    then_use (byte_at b flags.next) _ _ e₄ λ off x₅ e₅.
-    then_use (check (leb off.it 8) (refusal OFFSET 5)) _ _ e₅ λ u₆ x₆ e₆.
-    let r : f ≡ record { shape = layout tag.it flags.it; off = off.it } = cc in
-    rw r (passed (layout tag.it flags.it).size 4 (refusal SIZE 4) u₄ x₄, passed off.it 8 (refusal OFFSET 5) u₆ x₆)
-
 -- the counts c of a header whose places take `size` bytes
 pub record Counted (size scratch room : ℕ) (c : Counts) : Type 0 where
   pub few : c.cells ≤ 4096
@@ -34,29 +22,6 @@ pub record Counted (size scratch room : ℕ) (c : Counts) : Type 0 where
   pub scratch-room : 2 * c.cells ≤ scratch
   pub root-room : c.roots ≤ room
   pub place : c.next ≡ 6 + 3 * size
-
-counts-within : (b : List ℕ) (size scratch room : ℕ) (c : Counts) → size ≤ 4 → counts_at b size scratch room ≡ ok c → Counted size scratch room c
-unfolding counts_at checked_counts
-counts-within b size scratch room c h e =
-    then_use (field_at b 6 size) _ _ e λ cells x₁ e₁.
-    then_use (field_at b cells.next size) _ _ e₁ λ roots x₂ e₂.
-    then_use (field_at b roots.next size) _ _ e₂ λ absent x₃ e₃.
-    then_use (check (leb (roots.it + absent.it) cells.it) (refusal COUNTS 6)) _ _ e₃ λ u₄ x₄ e₄.
-    then_use (check (leb cells.it 4096) (refusal CELLS 6)) _ _ e₄ λ u₅ x₅ e₅.
-    then_use (check (leb (2 * cells.it) scratch) (refusal SCRATCH (2 * cells.it))) _ _ e₅ λ u₆ x₆ e₆.
-    then_use (check (leb roots.it room) (refusal ROOTROOM roots.it)) _ _ e₆ λ u₇ x₇ e₇.
-    let g : size ≤ 8 = omega arith in
-    let k₁ = field-ok b 6 size g cells x₁ in
-    let k₂ = field-ok b cells.next size g roots x₂ in
-    let k₃ = field-ok b roots.next size g absent x₃ in
-    let r : c ≡ record { cells = cells.it; roots = roots.it; next = absent.next } = cc in
-    rw r (record {
-      few = passed cells.it 4096 (refusal CELLS 6) u₅ x₅;
-      held = omega (arith, passed (roots.it + absent.it) cells.it (refusal COUNTS 6) u₄ x₄);
-      scratch-room = passed (2 * cells.it) scratch (refusal SCRATCH (2 * cells.it)) u₆ x₆;
-      root-room = passed roots.it room (refusal ROOTROOM roots.it) u₇ x₇;
-      place = omega arith;
-    })
 
 -- a header m of the bytes b
 pub record Within (b : List ℕ) (scratch room : ℕ) (m : Header) : Type 0 where
@@ -75,7 +40,7 @@ least true n = omega arith
 least false n = omega arith
 
 pub header-within : (b : List ℕ) (scratch room : ℕ) (m : Header) → header_at b scratch room ≡ ok m → Within b scratch room m
-unfolding header_at places_at
+unfolding header_at places_at flags_at counts_at checked_counts
 header-within b scratch room m e =
     then_use (flags_at b) _ _ e λ f x₁ e₁.
     then_use (counts_at b f.shape.size scratch room) _ _ e₁ λ c x₂ e₂.
@@ -101,3 +66,36 @@ header-within b scratch room m e =
       inside = rw k₅.0 (k₅.1 (rw k₄.0 (k₄.1 (omega arith))));
       near = omega arith;
     })
+  where
+    flags-within : (b : List ℕ) (f : Opening) → flags_at b ≡ ok f → (f.shape.size ≤ 4) × (f.off ≤ 8)
+    flags-within b f e =
+        then_use (field_at b 0 4) _ _ e λ tag x₁ e₁.
+        then_use (tag_ok tag.it) _ _ e₁ λ u₂ x₂ e₂.
+        then_use (byte_at b tag.next) _ _ e₂ λ flags x₃ e₃.
+        then_use (check (leb (layout tag.it flags.it).size 4) (refusal SIZE 4)) _ _ e₃ λ u₄ x₄ e₄.
+        then_use (byte_at b flags.next) _ _ e₄ λ off x₅ e₅.
+        then_use (check (leb off.it 8) (refusal OFFSET 5)) _ _ e₅ λ u₆ x₆ e₆.
+        let r : f ≡ record { shape = layout tag.it flags.it; off = off.it } = cc in
+        rw r (passed (layout tag.it flags.it).size 4 (refusal SIZE 4) u₄ x₄, passed off.it 8 (refusal OFFSET 5) u₆ x₆)
+
+    counts-within : (b : List ℕ) (size scratch room : ℕ) (c : Counts) → size ≤ 4 → counts_at b size scratch room ≡ ok c → Counted size scratch room c
+    counts-within b size scratch room c h e =
+        then_use (field_at b 6 size) _ _ e λ cells x₁ e₁.
+        then_use (field_at b cells.next size) _ _ e₁ λ roots x₂ e₂.
+        then_use (field_at b roots.next size) _ _ e₂ λ absent x₃ e₃.
+        then_use (check (leb (roots.it + absent.it) cells.it) (refusal COUNTS 6)) _ _ e₃ λ u₄ x₄ e₄.
+        then_use (check (leb cells.it 4096) (refusal CELLS 6)) _ _ e₄ λ u₅ x₅ e₅.
+        then_use (check (leb (2 * cells.it) scratch) (refusal SCRATCH (2 * cells.it))) _ _ e₅ λ u₆ x₆ e₆.
+        then_use (check (leb roots.it room) (refusal ROOTROOM roots.it)) _ _ e₆ λ u₇ x₇ e₇.
+        let g : size ≤ 8 = omega arith in
+        let k₁ = field-ok b 6 size g cells x₁ in
+        let k₂ = field-ok b cells.next size g roots x₂ in
+        let k₃ = field-ok b roots.next size g absent x₃ in
+        let r : c ≡ record { cells = cells.it; roots = roots.it; next = absent.next } = cc in
+        rw r (record {
+          few = passed cells.it 4096 (refusal CELLS 6) u₅ x₅;
+          held = omega (arith, passed (roots.it + absent.it) cells.it (refusal COUNTS 6) u₄ x₄);
+          scratch-room = passed (2 * cells.it) scratch (refusal SCRATCH (2 * cells.it)) u₆ x₆;
+          root-room = passed roots.it room (refusal ROOTROOM roots.it) u₇ x₇;
+          place = omega arith;
+        })

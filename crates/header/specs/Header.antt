@@ -1,4 +1,4 @@
--- The header of the bytes b by place: what `header`, `rootList` and `index` read, without the values of total, roots and index.
+-- The header of the bytes b by place: what `header`, `root_list` and `index` read, without the values of total, roots and index.
 use Rattle.std.specs.Prelude.{ℕ, ◌+◌, cond, List, leb}
 use Rattle.scheme.specs.Refusals.{SIZE, OFFSET, COUNTS, CELLS, SCRATCH, ROOTROOM}
 use Rattle.scheme.specs.Limits.{max_cells}

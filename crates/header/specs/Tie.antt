@@ -19,26 +19,6 @@ use Rattle.header.specs.declared.Header.{Header}
 abbrev pub roots_in : List ℕ → Header → List ℕ
 roots_in b m = numbers_at b m.size m.roots m.list
 
--- tag, byte 4 and off_bytes at their places
-flags-are : (b : List ℕ) → flags_at b ≡
-    (then (field b 0 4) λ tag.
-    then (tag_ok tag) λ _.
-    then (field b 4 1) λ flags.
-    then (check (leb (layout tag flags).size 4) (refusal SIZE 4)) λ _.
-    then (field b 5 1) λ off.
-    then (check (leb off 8) (refusal OFFSET 5)) λ _.
-    ok (record { shape = layout tag flags; off = off }))
-unfolding flags_at byte_at
-flags-are b =
-    rw (field_is b 0 4 (lit≤ tt))
-    (then-then (field b 0 4) _ _
-    ∙ then_same (field b 0 4) λ tag _.
-    then_same (tag_ok tag) λ _ _.
-    then-then (field b 4 1) _ _
-    ∙ then_same (field b 4 1) λ flags _.
-    then_same (check (leb (layout tag flags).size 4) (refusal SIZE 4)) λ _ _.
-    then-then (field b 5 1) _ _)
-
 -- the counts at their places
 counts-are : (b : List ℕ) (size scratch room : ℕ) → size ≤ 4 → counts_at b size scratch room ≡
     (then (field b 6 size) λ cells.
@@ -123,7 +103,7 @@ module _ {A : Type 0} (K : ℕ → ℕ → Bool → List ℕ → ℕ → Res A) 
 
   -- the header, then the root list and the index, are the header by place
   pub header_tie : (scratch room : ℕ) → then (header scratch room b) after_fields ≡ then (header_at b scratch room) after_header
-  unfolding header header_at checked_counts
+  unfolding header header_at checked_counts flags_at byte_at
   header_tie scratch room =
       rw (flags-are b)
       (then-first (field b 0 4) _ _ _ _ _ λ tag _.
@@ -142,6 +122,25 @@ module _ {A : Type 0} (K : ℕ → ℕ → Bool → List ℕ → ℕ → Res A) 
       then-first (check (leb (2 * cells) scratch) (refusal SCRATCH (2 * cells))) _ _ _ _ _ λ _ _.
       then-first (check (leb roots room) (refusal ROOTROOM roots)) _ _ _ _ _ λ _ _.
       then-then (field b (6 + 3 * (layout tag flags).size) off) _ _ ∙ places_tie tag flags off cells roots (6 + 3 * (layout tag flags).size)))
+    where
+      -- tag, byte 4 and off_bytes at their places
+      flags-are : (b : List ℕ) → flags_at b ≡
+          (then (field b 0 4) λ tag.
+          then (tag_ok tag) λ _.
+          then (field b 4 1) λ flags.
+          then (check (leb (layout tag flags).size 4) (refusal SIZE 4)) λ _.
+          then (field b 5 1) λ off.
+          then (check (leb off 8) (refusal OFFSET 5)) λ _.
+          ok (record { shape = layout tag flags; off = off }))
+      flags-are b =
+          rw (field_is b 0 4 (lit≤ tt))
+          (then-then (field b 0 4) _ _
+          ∙ then_same (field b 0 4) λ tag _.
+          then_same (tag_ok tag) λ _ _.
+          then-then (field b 4 1) _ _
+          ∙ then_same (field b 4 1) λ flags _.
+          then_same (check (leb (layout tag flags).size 4) (refusal SIZE 4)) λ _ _.
+          then-then (field b 5 1) _ _)
 
 -- what follows the header of a bag: the cells, the checksum, EXTRA, the links and the roots
 abbrev pub after_head : Bool → List ℕ → ℕ → ℕ → Bool → List ℕ → ℕ → Res Bag
@@ -152,9 +151,3 @@ after_head whole b size n sum roots first =
     then (links 0 n cells.it) λ _.
     then (roots_ok 0 n roots) λ _.
     ok (record { used = end; cells = cells.it; roots = roots })
-
--- a bag, by the places of its header
-pub bag-header : (whole : Bool) (scratch room : ℕ) (b : List ℕ)
-    → bag whole scratch room b ≡ then (header_at b scratch room) λ m. after_head whole b m.size m.cells m.checked (roots_in b m) m.first
-unfolding bag
-bag-header whole scratch room b = header_tie (after_head whole b) b scratch room

@@ -1,4 +1,6 @@
 // The header of a bag up to its first cell: tag, byte 4, off_bytes, counts, total, root list and index, by place.
+#![tactic(auto)]
+
 ghost use Rattle.std.specs.Prelude.{◌≡◌, cond};
 ghost use Rattle.scheme.specs.Layout.{layout};
 ghost use Rattle.header.specs.Header.{flags_at, checked_counts, counts_at, places_at, header_at};

@@ -1,4 +1,4 @@
--- One cell of the bytes b by place: what `rawCell` reads, without its data and its references' values.
+-- One cell of the bytes b by place: what `raw_cell` reads, without its data and its references' values.
 use Rattle.std.specs.Prelude.{ℕ, ◌+◌, ◌-◌, ◌*◌, ◌/◌, ◌%◌, Bool, true, false, not, List, get_or, eqb, leb}
 use Rattle.scheme.specs.Refusals.{REFS, PADDING}
 use Rattle.scheme.specs.Limits.{max_refs}

@@ -27,7 +27,7 @@ cell_in b size f = record {
 abbrev pub cell_past : List ℕ → ℕ → RawCell → Past Cell
 cell_past b size f = record { it = cell_in b size f; next = f.next }
 
--- the parts of `rawCell`: the references at place `links`, the data at place p and what follows it, the hashes at place p and what follows them
+-- the parts of `raw_cell`: the references at place `links`, the data at place p and what follows it, the hashes at place p and what follows them
 abbrev raw_links : List ℕ → ℕ → ℕ → ℕ → Bits → Res (Past Cell)
 raw_links b size d1 links w =
     then (fields b size (d1 % 8) links) λ rs.
@@ -80,18 +80,17 @@ module _ (b : List ℕ) (size : ℕ) where
         go (bad r) = refl
         go (ok len) = links_tie d1 len p (p + (d2 + 1) / 2)
 
-    body_tie : (d1 d2 p : ℕ) → raw_body b size d1 d2 p ≡ cells (body_at b size d1 d2 p)
-    unfolding body_at
-    body_tie d1 d2 p =
-        chunk-cases b p (hashes d1)
-        (λ h e. rw (e, skip-whole b p (hashes d1) h) (data_tie d1 d2 (p + hashes d1)))
-        (λ h e. rw (e, skip-cut b p (hashes d1) h))
-
     -- a cell of the bag is the cell of its frame
     pub raw-cell-frame : (p : ℕ) → raw_cell b size p ≡ then (frame b size p) λ f. ok (cell_past b size f)
-    unfolding raw_cell frame byte_at
+    unfolding raw_cell frame byte_at body_at
     raw-cell-frame p = first (field b p 1)
       where
+        body_tie : (d1 d2 p : ℕ) → raw_body b size d1 d2 p ≡ cells (body_at b size d1 d2 p)
+        body_tie d1 d2 p =
+            chunk-cases b p (hashes d1)
+            (λ h e. rw (e, skip-whole b p (hashes d1) h) (data_tie d1 d2 (p + hashes d1)))
+            (λ h e. rw (e, skip-cut b p (hashes d1) h))
+
         second : (d1 : ℕ) (y : Res ℕ)
             → then y (λ d2. raw_body b size d1 d2 (p + 2))
             ≡ cells (then (then y λ x. ok (record { it = x; next = p + 1 + 1 })) λ (d2 : Past ℕ). body_at b size d1 d2.it d2.next)

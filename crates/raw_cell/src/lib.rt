@@ -1,4 +1,6 @@
 // One cell of a bag by place: descriptors, hashes, data, references. Nothing is copied while a bag is looked at.
+#![tactic(auto)]
+
 ghost use Rattle.std.specs.Prelude.{◌≡◌, ◌+◌, ◌-◌, ◌*◌, ◌/◌, ◌^◌, ◌≤◌, length};
 ghost use Rattle.scheme.specs.Bits.{zeros};
 ghost use Rattle.scheme.specs.Bag.{hashes};

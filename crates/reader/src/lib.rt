@@ -1,4 +1,6 @@
 // Reading a bag into a store: the bytes first, by `bag`, then the cells are placed, the last one first, as by `store::add`.
+#![tactic(auto)]
+
 ghost use Rattle.std.specs.Prelude.{◌≡◌, Bool, true, false, ℕ, ◌+◌, ◌*◌, ◌≤◌, ◌<◌, length, take, get_or};
 ghost use mathlib.Core.List.{List, Memᴰ as Mem};
 ghost use Rattle.scheme.specs.Res.{then};
