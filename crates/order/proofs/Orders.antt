@@ -17,7 +17,8 @@ use Rattle.scheme.specs.Order.{memb, join, reached, run, order}
 use Rattle.laws.specs.Kahn.{Graph, Inv, Good, ready_of, room, start-inv, step-inv, kahn}
 use Rattle.laws.specs.Reach.{graph}
 use Rattle.laws.specs.Counts.{Settled, settle, run_counts, end_counts, count_down, bump, bump_at, parents, ready-parents}
-use Rattle.laws.specs.Counts.{Right, run-counts, end-counts, counted-down, length-bump, nodup-reached}
+use Rattle.laws.specs.Counts.{Right, counted-down, length-bump, nodup-reached}
+use Rattle.laws.proofs.Counts.{run-counts, end-counts}
 use Rattle.laws.specs.Records.{refs_at, Linked}
 use Rattle.order.specs.Queue.{kids_at, Small, Joined, Roomy, Listed, Placed, Ordered}
 use Rattle.order.proofs.Kids.{kids_refs, kids_below, order_is}

@@ -1,5 +1,7 @@
 // The order in which a bag lists the cells that a root reaches, made in the scratch of a store of n cells: from 0 the number of parents that each cell
 // waits for, from n the cells listed and behind them those in the queue, from 2 * n the place of each listed cell.
+#![tactic(auto)]
+
 ghost use Rattle.std.specs.Prelude.{◌≡◌, ℕ, ◌+◌, ◌*◌, ◌≤◌, ◌<◌, length, take};
 ghost use mathlib.Core.List.{[], ◌∷◌, Memᴰ as Mem};
 ghost use Rattle.std.proofs.Math.Seq.{slice};

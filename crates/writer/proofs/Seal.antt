@@ -50,7 +50,7 @@ sealed_length false body = length-append body []
 index-of-length : (t : List ℕ) (size off start : ℕ) (l : List ℕ) → length (index_of t size off start l) ≡ off * length l
 unfolding index_of
 index-of-length t size off start [] = omega arith
-index-of-length t size off start (x ∷ l) = length-append (be off (entry start (start + cell_size t size x))) _ ∙ rw (length-be off (entry start (start + cell_size t size x)), index-of-length t size off _ l) (times off (length l))
+index-of-length t size off start (x ∷ l) = length-append (be off (entry start (start + cell_size t size x))) _ ∙ rw (length-be off (entry start (start + cell_size t size x)), index-of-length t size off (start + cell_size t size x) l) (times off (length l))
   where
     times : (a b : ℕ) → a + a * b ≡ a * suc b
     times a b = omega arith

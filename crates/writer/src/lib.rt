@@ -1,4 +1,6 @@
 // The bag writer: the bytes of the cells that one root of a store reaches.
+#![tactic(auto)]
+
 ghost use Rattle.std.specs.Prelude.{◌≡◌, ℕ, ◌+◌, ◌-◌, ◌*◌, ◌/◌, ◌%◌, ◌^◌, ◌≤◌, ◌<◌, true, cond, length};
 ghost use mathlib.Core.List.{Memᴰ as Mem};
 ghost use Rattle.std.proofs.Math.Seq.{slice};

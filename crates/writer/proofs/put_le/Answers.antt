@@ -1,0 +1,33 @@
+use Prim.Native.Nat.{◌-◌, ◌+◌}
+use mathlib.Core.Path.{◌≡◌, refl, sym, ◌∙◌}
+use native.Mathlib.Omega.{arith}
+use lib.ListN.{length-set}
+use Rattle.scheme.specs.Bytes.{le}
+use Rattle.laws.specs.Puts.{puts, puts-nil}
+use Rattle.writer.proofs.Numbers.{le-turn}
+use Rattle.writer.proofs.put_le.Goals as goal
+
+pub loop-i-init : goal.loop-i-init
+loop-i-init c =
+    let a = c.args in
+    let e : a.at + 0 ≡ a.at = omega arith in
+    let q : a.k - 0 ≡ a.k = omega arith in
+    (omega arith, refl, rw (e, q) refl)
+
+pub low_byte-requires : goal.low_byte-requires
+low_byte-requires c = tt
+
+pub loop-i-preserved : goal.loop-i-preserved
+loop-i-preserved c =
+    let a = c.args in
+    let l = c.loop-i in
+    (omega arith, simp length-set l.invariant.1, rw c.low_byte.ensures (le-turn l.out a.at l.i a.k l.x (puts a.out.now a.at (le a.k a.n)) (omega arith) l.invariant.2))
+
+pub shape_of-out : goal.shape_of-out
+shape_of-out c = c.loop-i.invariant.1
+
+pub returns : goal.returns
+returns c =
+    let l = c.loop-i in
+    let e : c.args.k - l.i ≡ 0 = omega arith in
+    (refl, sym (rw e (puts-nil l.out (c.args.at + l.i))) ∙ l.invariant.2)

@@ -1,0 +1,13 @@
+-- `writer::put_le` meets its contract: the bytes from i on are left. Assumes nothing.
+use Prim.Native.Nat.{◌≤◌, ◌-◌, ◌+◌}
+use mathlib.Core.Path.{◌≡◌}
+use lib.ListN.{length}
+use Rattle.scheme.specs.Bytes.{le}
+use Rattle.laws.specs.Puts.{puts}
+use Rattle.writer.proofs.put_le.Given as goal
+
+abbrev pub invariant-loop-i : goal.invariant-loop-i
+invariant-loop-i l = (l.i ≤ l.k) × (length l.out ≡ length l.initial.out) × (puts l.out (l.at + l.i) (le (l.k - l.i) l.x) ≡ puts l.initial.out l.at (le l.k l.n))
+
+abbrev pub decreases-loop-i : goal.decreases-loop-i
+decreases-loop-i l = l.k - l.i
