@@ -1,4 +1,6 @@
 // The depth of a cell: a pass by number over the stored cells, with one scratch entry a cell.
+#![tactic(auto)]
+
 ghost use Rattle.std.specs.Prelude.{◌≡◌, ◌+◌, ◌*◌, ◌≤◌, ◌<◌, min, ◌++◌, map, length, drop};
 ghost use Rattle.scheme.specs.Memory.{cell_at};
 ghost use Rattle.scheme.specs.Fold.{pick, below};

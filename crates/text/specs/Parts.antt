@@ -23,8 +23,8 @@ unfoldable pub bytes_at : List ℕ → ℕ → ℕ → List ℕ
 bytes_at d n len = take (bytes_for len) (drop (n * 128) d)
 
 -- of the cells in memory: cell n's own part; the texts and the sizes of its references from the j-th on
-abbrev pub field_own : List ℕ → List ℕ → ℕ → List ℕ
-field_own t d n = own (get_or t (n * 7 + 1) 0) (bytes_at d n (get_or t (n * 7 + 1) 0))
+abbrev pub own_at : List ℕ → List ℕ → ℕ → List ℕ
+own_at t d n = own (get_or t (n * 7 + 1) 0) (bytes_at d n (get_or t (n * 7 + 1) 0))
 
 abbrev pub text_at : List ℕ → List ℕ → ℕ → List ℕ
 text_at t d n = text_of (cell_at t d) n

@@ -1,4 +1,6 @@
 // The Debug text of a cell. Passes by number find what the text takes; nothing is written before every refusal is ruled out.
+#![tactic(auto)]
+
 ghost use Rattle.std.specs.Prelude.{◌≡◌, ℕ, ◌+◌, ◌-◌, ◌*◌, ◌≤◌, ◌<◌, min, List, ◌++◌, map, length, drop, get_or};
 ghost use Rattle.scheme.specs.Memory.{cell_at};
 ghost use Rattle.scheme.specs.Fold.{pick, below};
