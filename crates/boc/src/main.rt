@@ -1,7 +1,9 @@
 // Reads one bag from standard input and prints what is in it: `ok` used cells roots and each root's text, or why it is refused.
-use libc::STDIN_FILENO;
+#![tactic(auto)]
+
 use scheme::{DATA_LEN, RECORD_LEN};
-use tell::{ROOTS_LEN, SCRATCH_PER_CELL, input_room, out_room, tell};
+use std::io;
+use tell::{ROOTS_LEN, SCRATCH_PER_CELL, input_room, out_room, read_full, tell};
 
 // The cells of the store, and those of a bag at most.
 const CELLS: usize = 128;
@@ -17,20 +19,21 @@ fn bytes_room() -> [u8; BYTES_LEN] {
     [0u8; BYTES_LEN]
 }
 
-fn main() {
+fn main(rt: HostRuntime) -> io::Result<()> {
     let mut input = input_room();
     let mut table = [0u32; TABLE_LEN];
     let mut bytes = bytes_room();
     let mut scratch = [0u32; SCRATCH_LEN];
     let mut roots = [0u32; ROOTS_LEN];
     let mut out = out_room();
-    let n = io::read_full(STDIN_FILENO, &mut input);
+    let n = read_full(&mut rt.stdin(), &mut input)?;
     tell(
+        &mut rt.stdout(),
         &input[..n],
         &mut table,
         &mut bytes,
         &mut scratch,
         &mut roots,
         &mut out,
-    );
+    )
 }

@@ -21,12 +21,13 @@ use Rattle.scheme.specs.Program.{spaced, refused_line, root_lines, read_lines, t
 use Rattle.laws.specs.Wf.{Wf}
 use Rattle.laws.specs.Unique.{find_cases, insert-old, insert-new}
 use Rattle.laws.specs.Records.{sized-is}
-use Rattle.laws.specs.Accept.{Small, read-inv}
+use Rattle.laws.specs.Accept.{Small}
+use Rattle.laws.proofs.Accept.{read-inv}
 use Rattle.laws.specs.RoundLaws.{cells-back}
 use Rattle.laws.specs.Lay.{wf-nil, sound-lay}
 use Rattle.theorems.specs.Grammar.{cell_of, bag_of}
-use Rattle.theorems.specs.Accepts.{grammar}
-use Rattle.theorems.specs.Meaning.{read-means}
+use Rattle.theorems.proofs.Accepts.{grammar}
+use Rattle.theorems.proofs.Meaning.{read-means}
 use Rattle.store.specs.declared.Cleared.{Cleared}
 use Rattle.store.specs.Paper.{Clears}
 use Rattle.reader.specs.declared.Counts.{Counts}

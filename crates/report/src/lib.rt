@@ -1,4 +1,6 @@
 // The whole output of the program for one reply, as a function of its bytes and of the memory that is lent for it.
+#![tactic(auto)]
+
 ghost use Rattle.std.specs.Prelude.{◌≡◌, true, [], ◌++◌, ◌+◌, ◌*◌, ◌≤◌, ◌<◌, length};
 ghost use Rattle.scheme.specs.Memory.{sound};
 ghost use Rattle.scheme.specs.Calls.{zeroed};

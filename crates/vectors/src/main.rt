@@ -1,10 +1,13 @@
 // Reads cases from standard input and prints the report of each. A case is two bytes, the cells of the store; four bytes, the length of a reply;
 // and the reply. Numbers have the high byte first. A store or a reply that is longer than the memory here ends the run.
+#![tactic(auto)]
+
 ghost use Rattle.std.specs.Prelude.{◌≡◌, ◌*◌, ◌≤◌, ◌<◌, length};
 
-use libc::STDIN_FILENO;
 use scheme::{DATA_LEN, RECORD_LEN};
-use tell::{ROOTS_LEN, SCRATCH_PER_CELL, input_room, out_room, tell};
+use std::io;
+use std::io::{Read, Write};
+use tell::{ROOTS_LEN, SCRATCH_PER_CELL, input_room, out_room, read_full, tell};
 
 // The bytes in front of a reply.
 const HEAD_LEN: usize = 6;
@@ -31,18 +34,19 @@ pub enum Head {
     End,
 }
 
-fn read_head() -> Head {
+fn read_head<R: Read>(from: &mut R) -> io::Result<Head> {
     let mut head = [0u8; HEAD_LEN];
-    if io::read_full(STDIN_FILENO, &mut head) < HEAD_LEN {
-        return Head::End;
+    if read_full(from, &mut head)? < HEAD_LEN {
+        return Ok(Head::End);
     }
     let cells = wide(head[0]) * 256 + wide(head[1]);
     let len = ((wide(head[2]) * 256 + wide(head[3])) * 256 + wide(head[4])) * 256 + wide(head[5]);
-    Head::Case(cells, len)
+    Ok(Head::Case(cells, len))
 }
 
 // Prints the report of a reply, with the memory of a store of so many cells.
-fn tell_in(
+fn tell_in<W: Write>(
+    to: &mut W,
     reply: &[u8],
     cells: usize,
     table: &mut [u32],
@@ -50,45 +54,48 @@ fn tell_in(
     scratch: &mut [u32],
     roots: &mut [u32],
     out: &mut [u8],
-)
+) -> io::Result<()>
     requires { (cells * 7 ≤ length table.old) × (cells * 128 ≤ length bytes.old) × (cells * 2 ≤ length scratch.old) }
 {
     let table_len = cells * RECORD_LEN;
     let bytes_len = cells * DATA_LEN;
     let scratch_len = cells * SCRATCH_PER_CELL;
     tell(
+        to,
         reply,
         &mut table[..table_len],
         &mut bytes[..bytes_len],
         &mut scratch[..scratch_len],
         roots,
         out,
-    );
+    )
 }
 
 // Reads a case, prints its report, and answers whether to go on. What an earlier case left in the memory is cleared.
-fn tell_next(
+fn tell_next<R: Read, W: Write>(
+    from: &mut R,
+    to: &mut W,
     input: &mut [u8],
     table: &mut [u32],
     bytes: &mut [u8],
     scratch: &mut [u32],
     roots: &mut [u32],
     out: &mut [u8],
-) -> bool
+) -> io::Result<bool>
     requires { (length table.old ≡ 512 * 7) × (length bytes.old ≡ 512 * 128) × (length scratch.old ≡ 512 * 2) }
 {
-    let Head::Case(cells, len) = read_head() else {
-        return false;
+    let Head::Case(cells, len) = read_head(from)? else {
+        return Ok(false);
     };
     if input.len() < len {
-        return false;
+        return Ok(false);
     }
     if CELLS < cells {
-        return false;
+        return Ok(false);
     }
-    let n = io::read_full(STDIN_FILENO, &mut input[..len]);
-    tell_in(&input[..n], cells, table, bytes, scratch, roots, out);
-    true
+    let n = read_full(from, &mut input[..len])?;
+    tell_in(to, &input[..n], cells, table, bytes, scratch, roots, out)?;
+    Ok(true)
 }
 
 // The memory of the largest store. Each part comes from a function, so that its type says its length and no proof counts its elements.
@@ -105,7 +112,9 @@ fn scratch_room() -> [u32; SCRATCH_LEN] {
 }
 
 // A loop that is proved has to end, so the turns count down, from a number that no run uses up.
-fn main() {
+fn main(rt: HostRuntime) -> io::Result<()> {
+    let mut from = rt.stdin();
+    let mut to = rt.stdout();
     let mut input = input_room();
     let mut table = table_room();
     let mut bytes = bytes_room();
@@ -115,14 +124,17 @@ fn main() {
     let mut turns = u64::MAX;
     while turns > 0
         && tell_next(
+            &mut from,
+            &mut to,
             &mut input,
             &mut table,
             &mut bytes,
             &mut scratch,
             &mut roots,
             &mut out,
-        )
+        )?
     {
         turns -= 1;
     }
+    Ok(())
 }

@@ -1,0 +1,7 @@
+-- `report::refused_len` meets its contract. Assumes nothing.
+use native.Mathlib.Omega.{arith}
+use Rattle.report.proofs.Lines.{refused-length}
+use Rattle.report.proofs.refused_len.Goals as goal
+
+pub returns : goal.returns
+returns c = omega (arith, refused-length c.args.r, c.width.ensures, c.width-2.ensures)
