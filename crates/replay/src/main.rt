@@ -2,6 +2,8 @@
 // of the memory afterwards. A case: u8 whole (1: unpack_fully, else deserialize), u16 records of the store, u16 cells held before, u16 scratch entries,
 // u16 root places, u32 reply length, all big-endian, and the reply. A line: `ok` used cells roots added count roots.. sum, or `refused` number place
 // count sum, where sum is the CRC-32C of the table, the data, the scratch and the root places, numbers as four little-endian bytes.
+#![tactic(auto)]
+
 ghost use Rattle.std.specs.Prelude.{◌≤◌};
 
 use bits::{Field, read_field};
@@ -10,6 +12,8 @@ use crc32c::crc32c;
 use memory::put_bytes;
 use reader::{ReadAnswer, deserialize, unpack_fully};
 use scheme::{DATA_LEN, MAX_CELLS, RECORD_LEN};
+use std::io;
+use std::io::{ErrorKind, Read, Write};
 use store::{add, clear};
 
 // Bytes of a case before its reply.
@@ -122,33 +126,40 @@ fn prepare(count: &mut usize, table: &mut [u32], bytes: &mut [u8], held: usize) 
     add_cells(count, table, bytes, held);
 }
 
-fn print_roots(roots: &[u32], n: usize) {
+fn print_roots<W: Write>(to: &mut W, roots: &[u32], n: usize) -> io::Result<()> {
     let most = least(n, roots.len());
-    show::numbers(&roots[..most]);
+    show::numbers(to, &roots[..most])
 }
 
-fn print_line(answer: ReadAnswer, count: usize, roots: &[u32], sum: u32) {
+fn print_line<W: Write>(
+    to: &mut W,
+    answer: ReadAnswer,
+    count: usize,
+    roots: &[u32],
+    sum: u32,
+) -> io::Result<()> {
     match answer {
         ReadAnswer::Done(c) => {
-            show::text(b"ok");
-            show::spaced(c.used);
-            show::spaced(c.cells);
-            show::spaced(c.roots);
-            show::spaced(c.added);
-            show::spaced(count);
-            print_roots(roots, c.roots);
+            show::text(to, b"ok")?;
+            show::spaced(to, c.used)?;
+            show::spaced(to, c.cells)?;
+            show::spaced(to, c.roots)?;
+            show::spaced(to, c.added)?;
+            show::spaced(to, count)?;
+            print_roots(to, roots, c.roots)?;
         }
         ReadAnswer::Refused(r) => {
-            show::refused(r);
-            show::spaced(count);
+            show::refused(to, r)?;
+            show::spaced(to, count)?;
         }
     }
-    show::spaced(sum as usize);
-    show::end();
+    show::spaced(to, sum as usize)?;
+    show::end(to)
 }
 
 // The line of a case.
-fn report(
+fn report<W: Write>(
+    to: &mut W,
     answer: ReadAnswer,
     count: usize,
     table: &[u32],
@@ -156,9 +167,9 @@ fn report(
     scratch: &[u32],
     roots: &[u32],
     all: &mut [u8],
-) {
+) -> io::Result<()> {
     let sum = memory_sum(table, bytes, scratch, roots, all);
-    print_line(answer, count, roots, sum);
+    print_line(to, answer, count, roots, sum)
 }
 
 // Fills the scratch and the root places, and reads.
@@ -180,7 +191,8 @@ fn read_case(
 }
 
 // One case on memory of its sizes.
-fn run_case(
+fn run_case<W: Write>(
+    to: &mut W,
     whole: bool,
     held: usize,
     reply: &[u8],
@@ -189,26 +201,41 @@ fn run_case(
     scratch: &mut [u32],
     roots: &mut [u32],
     all: &mut [u8],
-) {
+) -> io::Result<()> {
     let mut count: usize = 0;
     prepare(&mut count, table, bytes, held);
     let answer = read_case(whole, reply, &mut count, table, bytes, scratch, roots);
-    report(answer, count, table, bytes, scratch, roots, all);
+    report(to, answer, count, table, bytes, scratch, roots, all)
+}
+
+// Fills the room from the input; whether there was so much.
+fn read_whole<R: Read>(from: &mut R, room: &mut [u8]) -> io::Result<bool> {
+    match from.read_exact(room) {
+        Ok(()) => Ok(true),
+        Err(e) => {
+            if e.kind() == ErrorKind::UnexpectedEof {
+                Ok(false)
+            } else {
+                Err(e)
+            }
+        }
+    }
 }
 
 // The next case; whether there was one.
-fn next_case(
+fn next_case<R: Read, W: Write>(
+    from: &mut R,
+    to: &mut W,
     reply: &mut [u8],
     table: &mut [u32],
     bytes: &mut [u8],
     scratch: &mut [u32],
     roots: &mut [u32],
     all: &mut [u8],
-) -> bool {
+) -> io::Result<bool> {
     let mut head = [0u8; HEAD_LEN];
-    let got = io::read_full(0, &mut head);
-    if got < HEAD_LEN {
-        return false;
+    if !read_whole(from, &mut head)? {
+        return Ok(false);
     }
     let whole = head[0] == 1;
     let records = number(&head, 1, 2, MAX_CELLS);
@@ -216,13 +243,13 @@ fn next_case(
     let entries = number(&head, 5, 2, scratch.len());
     let rooms = number(&head, 7, 2, roots.len());
     let len = number(&head, 9, 4, reply.len());
-    let read = io::read_full(0, &mut reply[..len]);
-    if read < len {
-        return false;
+    if !read_whole(from, &mut reply[..len])? {
+        return Ok(false);
     }
     let rows = least(records * RECORD_LEN, table.len());
     let blocks = least(records * DATA_LEN, bytes.len());
     run_case(
+        to,
         whole,
         held,
         &reply[..len],
@@ -231,23 +258,26 @@ fn next_case(
         &mut scratch[..entries],
         &mut roots[..rooms],
         all,
-    );
-    true
+    )?;
+    Ok(true)
 }
 
 // All cases. Nothing says that the input ends, so the turns are counted down from a number that no run uses up.
-fn run_cases(
+fn run_cases<R: Read, W: Write>(
+    from: &mut R,
+    to: &mut W,
     reply: &mut [u8],
     table: &mut [u32],
     bytes: &mut [u8],
     scratch: &mut [u32],
     roots: &mut [u32],
     all: &mut [u8],
-) {
+) -> io::Result<()> {
     let mut turns = u64::MAX;
-    while turns > 0 && next_case(reply, table, bytes, scratch, roots, all) {
+    while turns > 0 && next_case(from, to, reply, table, bytes, scratch, roots, all)? {
         turns -= 1;
     }
+    Ok(())
 }
 
 // The memory at most. Each part comes from a function, so that its type says its length and no proof counts its elements.
@@ -271,7 +301,9 @@ fn all_room() -> [u8; MAX_ALL] {
     [0u8; MAX_ALL]
 }
 
-fn main() {
+fn main(rt: HostRuntime) -> io::Result<()> {
+    let mut from = rt.stdin();
+    let mut to = rt.stdout();
     let mut reply = reply_room();
     let mut table = table_room();
     let mut bytes = bytes_room();
@@ -279,11 +311,13 @@ fn main() {
     let mut roots = [0u32; MAX_ROOMS];
     let mut all = all_room();
     run_cases(
+        &mut from,
+        &mut to,
         &mut reply,
         &mut table,
         &mut bytes,
         &mut scratch,
         &mut roots,
         &mut all,
-    );
+    )
 }

@@ -1,61 +1,87 @@
 // What the programs of the gate print.
-use libc::STDOUT_FILENO;
+#![tactic(auto)]
+
+ghost use Rattle.std.specs.Prelude.{[], ◌∷◌, ◌++◌, codes, OnOk};
+ghost use Rattle.std.specs.Io.KnownBytes.{Appends};
+ghost use Rattle.std.specs.Fmt.{decimal};
+ghost use Rattle.std.specs.List.{flat_map};
+ghost use Rattle.show.specs.Shown.{spaced, hex};
+
 use scheme::Refusal;
+use std::io;
+use std::io::Write;
 
-// The hexadecimal digits of a byte, and of four.
-const BYTE_DIGITS: usize = 2;
-
-const WORD_DIGITS: usize = 8;
-
-pub fn text(bytes: &[u8]) {
-    io::write_all(STDOUT_FILENO, bytes);
+pub fn text<W: Write>(to: &mut W, bytes: &[u8]) -> io::Result<()>
+    ensures { OnOk result (Appends (W.contents to.old) (W.contents to.new) bytes.now) }
+{
+    to.write_all(bytes)
 }
 
 // The end of a line.
-pub fn end() {
-    text(b"\n");
+pub fn end<W: Write>(to: &mut W) -> io::Result<()>
+    ensures { OnOk result (Appends (W.contents to.old) (W.contents to.new) (10 ∷ [])) }
+{
+    text(to, b"\n")
 }
 
-pub fn number(n: usize) {
-    io::print_decimal(STDOUT_FILENO, n as u64);
+pub fn number<W: Write>(to: &mut W, n: usize) -> io::Result<()>
+    ensures { OnOk result (Appends (W.contents to.old) (W.contents to.new) (decimal n)) }
+{
+    write!(to, "{n}")
 }
 
 // A number behind a space.
-pub fn spaced(n: usize) {
-    text(b" ");
-    number(n);
+pub fn spaced<W: Write>(to: &mut W, n: usize) -> io::Result<()>
+    ensures { OnOk result (Appends (W.contents to.old) (W.contents to.new) (spaced n)) }
+{
+    text(to, b" ")?;
+    number(to, n)
 }
 
-fn entry(x: u32) {
-    spaced(x as usize);
+fn entry<W: Write>(to: &mut W, x: u32) -> io::Result<()>
+    ensures { OnOk result (Appends (W.contents to.old) (W.contents to.new) (spaced x)) }
+{
+    spaced(to, x as usize)
 }
 
 // Each number behind a space.
-pub fn numbers(xs: &[u32]) {
+pub fn numbers<W: Write>(to: &mut W, xs: &[u32]) -> io::Result<()>
+    ensures { OnOk result (Appends (W.contents to.old) (W.contents to.new) (flat_map spaced xs.now)) }
+{
     for i in 0..xs.len() {
-        entry(xs[i]);
+        entry(to, xs[i])?;
     }
+    Ok(())
 }
 
-fn byte(b: u8) {
-    io::print_hex(STDOUT_FILENO, b as u64, BYTE_DIGITS);
+fn byte<W: Write>(to: &mut W, b: u8) -> io::Result<()>
+    ensures { OnOk result (Appends (W.contents to.old) (W.contents to.new) (hex 2 b)) }
+{
+    write!(to, "{b:02x}")
 }
 
 // Bytes in hexadecimal.
-pub fn bytes(xs: &[u8]) {
+pub fn bytes<W: Write>(to: &mut W, xs: &[u8]) -> io::Result<()>
+    ensures { OnOk result (Appends (W.contents to.old) (W.contents to.new) (flat_map (hex 2) xs.now)) }
+{
     for i in 0..xs.len() {
-        byte(xs[i]);
+        byte(to, xs[i])?;
     }
+    Ok(())
 }
 
 // Four bytes in hexadecimal, the high one first.
-pub fn word(n: u32) {
-    io::print_hex(STDOUT_FILENO, n as u64, WORD_DIGITS);
+pub fn word<W: Write>(to: &mut W, n: u32) -> io::Result<()>
+    ensures { OnOk result (Appends (W.contents to.old) (W.contents to.new) (hex 8 n)) }
+{
+    write!(to, "{n:08x}")
 }
 
 // `refused` number place.
-pub fn refused(r: Refusal) {
-    text(b"refused");
-    spaced(r.number as usize);
-    spaced(r.place);
+pub fn refused<W: Write>(to: &mut W, r: Refusal) -> io::Result<()>
+    ensures { OnOk result (Appends (W.contents to.old) (W.contents to.new) (codes "refused" ++ spaced r.number ++ spaced r.place)) }
+{
+    text(to, b"refused")?;
+    spaced(to, r.number as usize)?;
+    spaced(to, r.place)
 }

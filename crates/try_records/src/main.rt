@@ -1,4 +1,6 @@
 // Runs the record form on real memory: a store's flat table copied to records, each record read, one appended, and the records copied back.
+#![tactic(auto)]
+
 ghost use Rattle.std.specs.Prelude.{◌≡◌, true, ltb, ◌++◌, ◌*◌, ◌≤◌, length, get_or, set, take, drop};
 ghost use Rattle.records.specs.Answers.{read_of, added_of, read_paper, added_paper};
 ghost use Rattle.records.specs.Record.{blank, lesser_of, room_for, export_recs, import_recs};
@@ -6,6 +8,8 @@ ghost use Rattle.records.specs.Record.{blank, lesser_of, room_for, export_recs, 
 use builder::CellBuilder;
 use records::{CellRecord, RecordAdded, RecordRead};
 use scheme::{DATA_LEN, RECORD_LEN, Refusal};
+use std::io;
+use std::io::Write;
 use store::{Added, Asked, Cleared};
 
 // The records of the store, and of the array that is lent.
@@ -70,14 +74,14 @@ fn append(mut table: [CellRecord; PLACES], count: usize, r: CellRecord) -> Appen
     Appended { answer, table }
 }
 
-fn show_refused(r: Refusal) {
-    show::refused(r);
-    show::end();
+fn show_refused<W: Write>(to: &mut W, r: Refusal) -> io::Result<()> {
+    show::refused(to, r)?;
+    show::end(to)
 }
 
-fn show_line(xs: &[u32]) {
-    show::numbers(xs);
-    show::end();
+fn show_line<W: Write>(to: &mut W, xs: &[u32]) -> io::Result<()> {
+    show::numbers(to, xs)?;
+    show::end(to)
 }
 
 fn same(a: &[u32], b: &[u32]) -> bool
@@ -96,22 +100,33 @@ fn same(a: &[u32], b: &[u32]) -> bool
     true
 }
 
-fn try_clear(count: &mut usize, table: &mut [u32], bytes: &mut [u8]) {
-    show::text(b"clear: ");
+fn try_clear<W: Write>(
+    to: &mut W,
+    count: &mut usize,
+    table: &mut [u32],
+    bytes: &mut [u8],
+) -> io::Result<()> {
+    show::text(to, b"clear: ")?;
     match store::clear(count, table, bytes) {
-        Cleared::Done => show::text(b"done\n"),
-        Cleared::Refused(r) => show_refused(r),
+        Cleared::Done => show::text(to, b"done\n"),
+        Cleared::Refused(r) => show_refused(to, r),
     }
 }
 
-fn try_add(count: &mut usize, table: &mut [u32], bytes: &mut [u8], cell: CellBuilder) {
-    show::text(b"add: ");
+fn try_add<W: Write>(
+    to: &mut W,
+    count: &mut usize,
+    table: &mut [u32],
+    bytes: &mut [u8],
+    cell: CellBuilder,
+) -> io::Result<()> {
+    show::text(to, b"add: ")?;
     match store::add(count, table, bytes, cell) {
         Added::Number(n) => {
-            show::number(n);
-            show::end();
+            show::number(to, n)?;
+            show::end(to)
         }
-        Added::Refused(r) => show_refused(r),
+        Added::Refused(r) => show_refused(to, r),
     }
 }
 
@@ -128,75 +143,113 @@ fn cell_of(exotic: bool, len: usize, first: u8, count: usize, refs: [u32; 4]) ->
     }
 }
 
-fn adds(count: &mut usize, table: &mut [u32], bytes: &mut [u8]) {
-    try_add(count, table, bytes, cell_of(false, 8, 171, 0, [0, 0, 0, 0]));
+fn adds<W: Write>(
+    to: &mut W,
+    count: &mut usize,
+    table: &mut [u32],
+    bytes: &mut [u8],
+) -> io::Result<()> {
     try_add(
+        to,
+        count,
+        table,
+        bytes,
+        cell_of(false, 8, 171, 0, [0, 0, 0, 0]),
+    )?;
+    try_add(
+        to,
         count,
         table,
         bytes,
         cell_of(false, 12, 207, 2, [0, 0, 0, 0]),
-    );
-    try_add(count, table, bytes, cell_of(true, 5, 248, 4, [1, 0, 0, 1]));
+    )?;
+    try_add(
+        to,
+        count,
+        table,
+        bytes,
+        cell_of(true, 5, 248, 4, [1, 0, 0, 1]),
+    )
 }
 
-fn show_record(r: CellRecord) {
-    show_line(&[r.exotic, r.len, r.refs, r.r0, r.r1, r.r2, r.r3]);
+fn show_record<W: Write>(to: &mut W, r: CellRecord) -> io::Result<()> {
+    show_line(to, &[r.exotic, r.len, r.refs, r.r0, r.r1, r.r2, r.r3])
 }
 
-fn try_read(table: [CellRecord; PLACES], n: usize, count: usize) {
-    show::text(b"record ");
-    show::number(n);
-    show::text(b" of ");
-    show::number(count);
-    show::text(b":");
+fn try_read<W: Write>(
+    to: &mut W,
+    table: [CellRecord; PLACES],
+    n: usize,
+    count: usize,
+) -> io::Result<()> {
+    show::text(to, b"record ")?;
+    show::number(to, n)?;
+    show::text(to, b" of ")?;
+    show::number(to, count)?;
+    show::text(to, b":")?;
     match read(table, n, count) {
-        RecordRead::Record(r) => show_record(r),
+        RecordRead::Record(r) => show_record(to, r),
         RecordRead::Refused(r) => {
-            show::text(b" ");
-            show_refused(r);
+            show::text(to, b" ")?;
+            show_refused(to, r)
         }
     }
 }
 
-fn try_export(flat: &[u32], n: usize, table: [CellRecord; PLACES]) -> [CellRecord; PLACES] {
+fn try_export<W: Write>(
+    to: &mut W,
+    flat: &[u32],
+    n: usize,
+    table: [CellRecord; PLACES],
+) -> io::Result<[CellRecord; PLACES]> {
     let exported = export(flat, n, table);
-    show::text(b"export ");
-    show::number(n);
-    show::text(b": ");
-    show::number(exported.count);
-    show::end();
-    exported.table
+    show::text(to, b"export ")?;
+    show::number(to, n)?;
+    show::text(to, b": ")?;
+    show::number(to, exported.count)?;
+    show::end(to)?;
+    Ok(exported.table)
 }
 
-fn try_append(table: [CellRecord; PLACES], count: usize, r: CellRecord) -> [CellRecord; PLACES] {
+fn try_append<W: Write>(
+    to: &mut W,
+    table: [CellRecord; PLACES],
+    count: usize,
+    r: CellRecord,
+) -> io::Result<[CellRecord; PLACES]> {
     let appended = append(table, count, r);
     let answer = appended.answer;
-    show::text(b"append: ");
+    show::text(to, b"append: ")?;
     match answer {
         RecordAdded::Number(n) => {
-            show::number(n);
-            show::end();
+            show::number(to, n)?;
+            show::end(to)?;
         }
-        RecordAdded::Refused(refusal) => show_refused(refusal),
+        RecordAdded::Refused(refusal) => show_refused(to, refusal)?,
     }
-    appended.table
+    Ok(appended.table)
 }
 
-fn try_import(table: [CellRecord; PLACES], n: usize, flat: &mut [u32]) {
-    show::text(b"import ");
-    show::number(n);
-    show::text(b": ");
-    show::number(import(table, n, flat));
-    show::end();
-    show::text(b"flat:");
-    show_line(flat);
+fn try_import<W: Write>(
+    to: &mut W,
+    table: [CellRecord; PLACES],
+    n: usize,
+    flat: &mut [u32],
+) -> io::Result<()> {
+    show::text(to, b"import ")?;
+    show::number(to, n)?;
+    show::text(to, b": ")?;
+    show::number(to, import(table, n, flat))?;
+    show::end(to)?;
+    show::text(to, b"flat:")?;
+    show_line(to, flat)
 }
 
-fn compare(a: &[u32], b: &[u32]) {
+fn compare<W: Write>(to: &mut W, a: &[u32], b: &[u32]) -> io::Result<()> {
     if same(a, b) {
-        show::text(b"the same\n");
+        show::text(to, b"the same\n")
     } else {
-        show::text(b"not the same\n");
+        show::text(to, b"not the same\n")
     }
 }
 
@@ -216,17 +269,23 @@ fn blanks() -> [CellRecord; PLACES] {
     [record_of(0, 0, 0, 0); PLACES]
 }
 
-fn try_cell(count: usize, table: &[u32], bytes: &[u8], n: usize) {
-    show::text(b"cell ");
-    show::number(n);
-    show::text(b": ");
+fn try_cell<W: Write>(
+    to: &mut W,
+    count: usize,
+    table: &[u32],
+    bytes: &[u8],
+    n: usize,
+) -> io::Result<()> {
+    show::text(to, b"cell ")?;
+    show::number(to, n)?;
+    show::text(to, b": ")?;
     match store::cell(count, table, bytes, n) {
         Asked::Cell(head) => {
-            show::number(head.len);
-            show::text(b" bits,");
-            show_line(&[head.r0, head.r1, head.r2, head.r3]);
+            show::number(to, head.len)?;
+            show::text(to, b" bits,")?;
+            show_line(to, &[head.r0, head.r1, head.r2, head.r3])
         }
-        Asked::Refused(r) => show_refused(r),
+        Asked::Refused(r) => show_refused(to, r),
     }
 }
 
@@ -241,58 +300,69 @@ fn there_and_back(flat: &[u32], n: usize, again: &mut [u32]) -> usize
 }
 
 // The flat table, copied to records, read there, and copied back.
-fn round_trip(count: usize, flat: &[u32]) -> [CellRecord; PLACES] {
-    let table = try_export(flat, count, blanks());
-    try_read(table, 0, count);
-    try_read(table, 1, count);
-    try_read(table, 2, count);
-    try_read(table, count, count);
+fn round_trip<W: Write>(
+    to: &mut W,
+    count: usize,
+    flat: &[u32],
+) -> io::Result<[CellRecord; PLACES]> {
+    let table = try_export(to, flat, count, blanks())?;
+    try_read(to, table, 0, count)?;
+    try_read(to, table, 1, count)?;
+    try_read(to, table, 2, count)?;
+    try_read(to, table, count, count)?;
     let mut again = [0u32; NUMBERS];
-    show::text(b"there and back ");
-    show::number(count);
-    show::text(b": ");
-    show::number(there_and_back(flat, count, &mut again));
-    show::end();
-    show::text(b"flat:");
-    show_line(&again);
-    compare(flat, &again);
-    table
+    show::text(to, b"there and back ")?;
+    show::number(to, count)?;
+    show::text(to, b": ")?;
+    show::number(to, there_and_back(flat, count, &mut again))?;
+    show::end(to)?;
+    show::text(to, b"flat:")?;
+    show_line(to, &again)?;
+    compare(to, flat, &again)?;
+    Ok(table)
 }
 
 // The records with one more, and the cell that it is.
-fn grow(count: usize, flat: &[u32], bytes: &[u8], table: [CellRecord; PLACES]) {
-    let grown = try_append(table, count, record_of(0, 2, 2, 1));
-    let full = try_append(grown, PLACES, record_of(1, 0, 0, 0));
-    try_read(full, count, PLACES);
-    try_read(full, PLACES, TOO_MANY);
+fn grow<W: Write>(
+    to: &mut W,
+    count: usize,
+    flat: &[u32],
+    bytes: &[u8],
+    table: [CellRecord; PLACES],
+) -> io::Result<()> {
+    let grown = try_append(to, table, count, record_of(0, 2, 2, 1))?;
+    let full = try_append(to, grown, PLACES, record_of(1, 0, 0, 0))?;
+    try_read(to, full, count, PLACES)?;
+    try_read(to, full, PLACES, TOO_MANY)?;
     let mut again = [0u32; NUMBERS];
-    try_import(full, PLACES, &mut again);
-    compare(flat, &again);
-    try_cell(PLACES, &again, bytes, count);
+    try_import(to, full, PLACES, &mut again)?;
+    compare(to, flat, &again)?;
+    try_cell(to, PLACES, &again, bytes, count)
 }
 
 // Copies of as many records as fit.
-fn short(flat: &[u32]) {
-    let table = try_export(flat, TOO_MANY, blanks());
-    let mixed = try_export(&[7u32; SHORT], TOO_MANY, table);
-    try_read(mixed, 0, PLACES);
-    try_read(mixed, 1, PLACES);
+fn short<W: Write>(to: &mut W, flat: &[u32]) -> io::Result<()> {
+    let table = try_export(to, flat, TOO_MANY, blanks())?;
+    let mixed = try_export(to, &[7u32; SHORT], TOO_MANY, table)?;
+    try_read(to, mixed, 0, PLACES)?;
+    try_read(to, mixed, 1, PLACES)?;
     let mut again = [5u32; SHORT];
-    try_import(table, TOO_MANY, &mut again);
+    try_import(to, table, TOO_MANY, &mut again)
 }
 
-fn main() {
+fn main(rt: HostRuntime) -> io::Result<()> {
+    let mut to = rt.stdout();
     let mut count = TOO_MANY;
     let mut flat = [3u32; NUMBERS];
     let mut bytes = [3u8; BYTES];
-    try_clear(&mut count, &mut flat, &mut bytes);
-    adds(&mut count, &mut flat, &mut bytes);
-    show::text(b"flat:");
-    show_line(&flat);
-    show::text(b"places: ");
-    show::number(places(blanks()));
-    show::end();
-    let table = round_trip(count, &flat);
-    grow(count, &flat, &bytes, table);
-    short(&flat);
+    try_clear(&mut to, &mut count, &mut flat, &mut bytes)?;
+    adds(&mut to, &mut count, &mut flat, &mut bytes)?;
+    show::text(&mut to, b"flat:")?;
+    show_line(&mut to, &flat)?;
+    show::text(&mut to, b"places: ")?;
+    show::number(&mut to, places(blanks()))?;
+    show::end(&mut to)?;
+    let table = round_trip(&mut to, count, &flat)?;
+    grow(&mut to, count, &flat, &bytes, table)?;
+    short(&mut to, &flat)
 }

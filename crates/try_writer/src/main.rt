@@ -1,9 +1,13 @@
 // Writes bags from stores that stand in memory and prints each outcome: the answer, the bytes in hex (of a long bag its first bytes, the
 // CRC-32C of all and the last bytes), whether the scratch is all 0, and whether the output past the bag is as it was. Each bag is then read into an
 // empty store and written from there: printed are the counts of the read, and whether the bytes are the same.
+#![tactic(auto)]
+
 use crc32c::crc32c;
 use reader::ReadAnswer;
 use scheme::{DATA_LEN, MAX_CELLS, RECORD_LEN};
+use std::io;
+use std::io::Write;
 use writer::{BagOfCellsArgs, Wrote};
 
 // Records of the largest store, the scratch for them, and the output.
@@ -111,26 +115,27 @@ fn all_kept(xs: &[u8]) -> bool {
     kept
 }
 
-fn show_kept(xs: &[u8]) {
+fn show_kept<W: Write>(to: &mut W, xs: &[u8]) -> io::Result<()> {
     if all_kept(xs) {
-        show::text(b" kept");
+        show::text(to, b" kept")?;
     } else {
-        show::text(b" CHANGED");
+        show::text(to, b" CHANGED")?;
     }
+    Ok(())
 }
 
 // The first bytes of a bag, which hold its size and total, the checksum of all of it, and its last bytes.
-fn show_long(bag: &[u8]) {
+fn show_long<W: Write>(to: &mut W, bag: &[u8]) -> io::Result<()> {
     if bag.len() < HEAD {
-        return;
+        return Ok(());
     }
-    show::text(b" ");
-    show::bytes(&bag[..HEAD]);
-    show::text(b" ");
-    show::word(crc32c(bag));
-    show::text(b" ");
+    show::text(to, b" ")?;
+    show::bytes(to, &bag[..HEAD])?;
+    show::text(to, b" ")?;
+    show::word(to, crc32c(bag))?;
+    show::text(to, b" ")?;
     let from = bag.len() - TAIL;
-    show::bytes(&bag[from..]);
+    show::bytes(to, &bag[from..])
 }
 
 fn with(has_idx: bool, has_crc32c: bool) -> BagOfCellsArgs {
@@ -149,106 +154,123 @@ fn args_of(bag: &[u8]) -> BagOfCellsArgs {
 }
 
 // Whether the first `long` bytes of out are the bag.
-fn show_same(bag: &[u8], out: &[u8], long: usize) {
+fn show_same<W: Write>(to: &mut W, bag: &[u8], out: &[u8], long: usize) -> io::Result<()> {
     if long > out.len() {
-        return;
+        return Ok(());
     }
-    if check::same(bag, &out[..long]) {
-        show::text(b" same");
+    if bag == &out[..long] {
+        show::text(to, b" same")?;
     } else {
-        show::text(b" other");
+        show::text(to, b" other")?;
     }
+    Ok(())
 }
 
 // Writes cell n of a store with the options of the bag, and compares with it.
-fn write_again(bag: &[u8], count: usize, table: &[u32], bytes: &[u8], n: usize) {
+fn write_again<W: Write>(
+    to: &mut W,
+    bag: &[u8],
+    count: usize,
+    table: &[u32],
+    bytes: &[u8],
+    n: usize,
+) -> io::Result<()> {
     let args = args_of(bag);
     let mut scratch = scratch_room();
     let mut out = out_room();
     let r = writer::serialize(count, table, bytes, n, args, &mut scratch, &mut out);
     match r {
         Wrote::Bytes(long) => {
-            show_same(bag, &out, long);
+            show_same(to, bag, &out, long)?;
         }
-        Wrote::Refused(refusal) => show::spaced(wide(refusal.number)),
+        Wrote::Refused(refusal) => show::spaced(to, wide(refusal.number))?,
     }
+    Ok(())
 }
 
 // Reads a bag into this empty store.
-fn read_into(bag: &[u8], table: &mut [u32], bytes: &mut [u8]) {
+fn read_into<W: Write>(
+    to: &mut W,
+    bag: &[u8],
+    table: &mut [u32],
+    bytes: &mut [u8],
+) -> io::Result<()> {
     let mut count = 0;
     let mut scratch = scratch_room();
     let mut roots = [0u32; 1];
     let r = reader::unpack_fully(bag, &mut count, table, bytes, &mut scratch, &mut roots);
     match r {
         ReadAnswer::Done(counts) => {
-            show::text(b" read");
-            show::spaced(counts.used);
-            show::spaced(counts.cells);
-            show::spaced(counts.roots);
-            show::spaced(counts.added);
-            write_again(bag, count, table, bytes, wide(roots[0]));
+            show::text(to, b" read")?;
+            show::spaced(to, counts.used)?;
+            show::spaced(to, counts.cells)?;
+            show::spaced(to, counts.roots)?;
+            show::spaced(to, counts.added)?;
+            write_again(to, bag, count, table, bytes, wide(roots[0]))?;
         }
         ReadAnswer::Refused(refusal) => {
-            show::text(b" refused");
-            show::spaced(wide(refusal.number));
-            show::spaced(refusal.place);
+            show::text(to, b" refused")?;
+            show::spaced(to, wide(refusal.number))?;
+            show::spaced(to, refusal.place)?;
         }
     }
+    Ok(())
 }
 
-fn read_short(bag: &[u8]) {
+fn read_short<W: Write>(to: &mut W, bag: &[u8]) -> io::Result<()> {
     let mut table = [0u32; 8 * RECORD_LEN];
     let mut bytes = [0u8; 8 * DATA_LEN];
-    read_into(bag, &mut table, &mut bytes);
+    read_into(to, bag, &mut table, &mut bytes)
 }
 
-fn read_long(bag: &[u8]) {
+fn read_long<W: Write>(to: &mut W, bag: &[u8]) -> io::Result<()> {
     let mut table = table_room();
     let mut bytes = bytes_room();
-    read_into(bag, &mut table, &mut bytes);
+    read_into(to, bag, &mut table, &mut bytes)
 }
 
 // A bag of n bytes at the start of out, and what comes back from it.
-fn show_bag(out: &[u8], n: usize) {
+fn show_bag<W: Write>(to: &mut W, out: &[u8], n: usize) -> io::Result<()> {
     if n > out.len() {
-        return;
+        return Ok(());
     }
     let bag = &out[..n];
     if n <= SHORT {
-        show::text(b" ");
-        show::bytes(bag);
-        read_short(bag);
+        show::text(to, b" ")?;
+        show::bytes(to, bag)?;
+        read_short(to, bag)?;
     } else {
-        show_long(bag);
-        read_long(bag);
+        show_long(to, bag)?;
+        read_long(to, bag)?;
     }
-    show_kept(&out[n..]);
+    show_kept(to, &out[n..])
 }
 
-fn show_outcome(r: Wrote, scratch: &[u32], out: &[u8]) {
+fn show_outcome<W: Write>(to: &mut W, r: Wrote, scratch: &[u32], out: &[u8]) -> io::Result<()> {
     match r {
         Wrote::Bytes(n) => {
-            show::text(b" ok");
-            show::spaced(n);
-            show_bag(out, n);
+            show::text(to, b" ok")?;
+            show::spaced(to, n)?;
+            show_bag(to, out, n)?;
         }
         Wrote::Refused(refusal) => {
-            show::text(b" refused");
-            show::spaced(wide(refusal.number));
-            show::spaced(refusal.place);
-            show_kept(out);
+            show::text(to, b" refused")?;
+            show::spaced(to, wide(refusal.number))?;
+            show::spaced(to, refusal.place)?;
+            show_kept(to, out)?;
         }
     }
     if all_zero(scratch) {
-        show::text(b" zeroed\n");
+        show::text(to, b" zeroed\n")?;
     } else {
-        show::text(b" LEFT\n");
+        show::text(to, b" LEFT\n")?;
     }
+    Ok(())
 }
 
 // One write, with all of this scratch and so many bytes of the output lent.
-fn write_lent(
+fn write_lent<W: Write>(
+    to: &mut W,
     count: usize,
     table: &[u32],
     bytes: &[u8],
@@ -257,16 +279,17 @@ fn write_lent(
     room: usize,
     scratch: &mut [u32],
     out: &mut [u8],
-) {
+) -> io::Result<()> {
     if room > out.len() {
-        return;
+        return Ok(());
     }
     let r = writer::serialize(count, table, bytes, n, args, scratch, &mut out[..room]);
-    show_outcome(r, scratch, out);
+    show_outcome(to, r, scratch, out)
 }
 
 // The same, with so many of the scratch entries.
-fn write_into(
+fn write_into<W: Write>(
+    to: &mut W,
     count: usize,
     table: &[u32],
     bytes: &[u8],
@@ -276,11 +299,12 @@ fn write_into(
     room: usize,
     scratch: &mut [u32],
     out: &mut [u8],
-) {
+) -> io::Result<()> {
     if entries > scratch.len() {
-        return;
+        return Ok(());
     }
     write_lent(
+        to,
         count,
         table,
         bytes,
@@ -289,10 +313,11 @@ fn write_into(
         room,
         &mut scratch[..entries],
         out,
-    );
+    )
 }
 
-fn write_within(
+fn write_within<W: Write>(
+    to: &mut W,
     count: usize,
     table: &[u32],
     bytes: &[u8],
@@ -300,10 +325,11 @@ fn write_within(
     args: BagOfCellsArgs,
     entries: usize,
     room: usize,
-) {
+) -> io::Result<()> {
     let mut scratch = scratch_room();
     let mut out = out_room();
     write_into(
+        to,
         count,
         table,
         bytes,
@@ -313,23 +339,38 @@ fn write_within(
         room,
         &mut scratch,
         &mut out,
-    );
+    )
 }
 
-fn write(name: &[u8], count: usize, table: &[u32], bytes: &[u8], n: usize, args: BagOfCellsArgs) {
+fn write<W: Write>(
+    to: &mut W,
+    name: &[u8],
+    count: usize,
+    table: &[u32],
+    bytes: &[u8],
+    n: usize,
+    args: BagOfCellsArgs,
+) -> io::Result<()> {
     if count > ROOM {
-        return;
+        return Ok(());
     }
-    show::text(name);
-    write_within(count, table, bytes, n, args, 4 * count, OUT);
+    show::text(to, name)?;
+    write_within(to, count, table, bytes, n, args, 4 * count, OUT)
 }
 
 // The four bags of one root: plain, with an index, with a checksum, with both.
-fn write_all(name: &[u8], count: usize, table: &[u32], bytes: &[u8], n: usize) {
-    write(name, count, table, bytes, n, with(false, false));
-    write(name, count, table, bytes, n, with(true, false));
-    write(name, count, table, bytes, n, with(false, true));
-    write(name, count, table, bytes, n, with(true, true));
+fn write_all<W: Write>(
+    to: &mut W,
+    name: &[u8],
+    count: usize,
+    table: &[u32],
+    bytes: &[u8],
+    n: usize,
+) -> io::Result<()> {
+    write(to, name, count, table, bytes, n, with(false, false))?;
+    write(to, name, count, table, bytes, n, with(true, false))?;
+    write(to, name, count, table, bytes, n, with(false, true))?;
+    write(to, name, count, table, bytes, n, with(true, true))
 }
 
 // Sets the first data byte of each cell.
@@ -347,20 +388,20 @@ fn set_bytes(bytes: &mut [u8], i: usize, count: usize, b: u8) {
 }
 
 // The cell of 32 bits, and each refusal, in their order.
-fn write_number(table: &[u32], bytes: &[u8]) {
-    write_all(b"number", 1, table, bytes, 0);
-    show::text(b"just enough");
-    write_within(1, table, bytes, 0, with(false, false), 4, 17);
-    show::text(b"room");
-    write_within(1, table, bytes, 0, with(false, false), 4, 16);
-    show::text(b"room");
-    write_within(1, table, bytes, 0, with(true, true), 4, 0);
-    show::text(b"scratch");
-    write_within(1, table, bytes, 0, with(false, false), 3, 0);
-    show::text(b"cell");
-    write_within(1, table, bytes, 1, with(false, false), 0, 0);
-    show::text(b"store");
-    write_within(3, table, bytes, 4, with(false, false), 5, 5);
+fn write_number<W: Write>(to: &mut W, table: &[u32], bytes: &[u8]) -> io::Result<()> {
+    write_all(to, b"number", 1, table, bytes, 0)?;
+    show::text(to, b"just enough")?;
+    write_within(to, 1, table, bytes, 0, with(false, false), 4, 17)?;
+    show::text(to, b"room")?;
+    write_within(to, 1, table, bytes, 0, with(false, false), 4, 16)?;
+    show::text(to, b"room")?;
+    write_within(to, 1, table, bytes, 0, with(true, true), 4, 0)?;
+    show::text(to, b"scratch")?;
+    write_within(to, 1, table, bytes, 0, with(false, false), 3, 0)?;
+    show::text(to, b"cell")?;
+    write_within(to, 1, table, bytes, 1, with(false, false), 0, 0)?;
+    show::text(to, b"store")?;
+    write_within(to, 3, table, bytes, 4, with(false, false), 5, 5)
 }
 
 fn set_data(bytes: &mut [u8]) {
@@ -368,22 +409,22 @@ fn set_data(bytes: &mut [u8]) {
     set_byte(bytes, 0, 3, 0xd2);
 }
 
-fn try_number() {
+fn try_number<W: Write>(to: &mut W) -> io::Result<()> {
     let mut table = [0u32; 14];
     let mut bytes = [0u8; 256];
     set_number(&mut table, 1, 32);
     set_data(&mut bytes);
-    write_number(&table, &bytes);
+    write_number(to, &table, &bytes)
 }
 
 // Bits that end in a byte and between bytes, and an exotic cell.
-fn write_bits(table: &[u32], bytes: &[u8]) {
-    write_all(b"empty", 6, table, bytes, 0);
-    write_all(b"three bits", 6, table, bytes, 1);
-    write_all(b"1016 bits", 6, table, bytes, 2);
-    write_all(b"1017 bits", 6, table, bytes, 3);
-    write_all(b"1023 bits", 6, table, bytes, 4);
-    write_all(b"exotic", 6, table, bytes, 5);
+fn write_bits<W: Write>(to: &mut W, table: &[u32], bytes: &[u8]) -> io::Result<()> {
+    write_all(to, b"empty", 6, table, bytes, 0)?;
+    write_all(to, b"three bits", 6, table, bytes, 1)?;
+    write_all(to, b"1016 bits", 6, table, bytes, 2)?;
+    write_all(to, b"1017 bits", 6, table, bytes, 3)?;
+    write_all(to, b"1023 bits", 6, table, bytes, 4)?;
+    write_all(to, b"exotic", 6, table, bytes, 5)
 }
 
 fn set_lengths(table: &mut [u32]) {
@@ -398,7 +439,7 @@ fn set_long(bytes: &mut [u8]) {
     set_bytes(bytes, 4, 128, 0x5a);
 }
 
-fn try_bits() {
+fn try_bits<W: Write>(to: &mut W) -> io::Result<()> {
     let mut table = [0u32; 42];
     let mut bytes = [0u8; 768];
     set_rows(
@@ -408,32 +449,32 @@ fn try_bits() {
     set_lengths(&mut table);
     set_firsts(&mut bytes, b"\x00\xa0\x00\x00\x00\xff");
     set_long(&mut bytes);
-    write_bits(&table, &bytes);
+    write_bits(to, &table, &bytes)
 }
 
 // aa refers to bb and cc, both to an empty cell; then from bb alone.
-fn write_diamond(table: &[u32], bytes: &[u8]) {
-    write_all(b"diamond", 4, table, bytes, 3);
-    write_all(b"bb", 4, table, bytes, 1);
+fn write_diamond<W: Write>(to: &mut W, table: &[u32], bytes: &[u8]) -> io::Result<()> {
+    write_all(to, b"diamond", 4, table, bytes, 3)?;
+    write_all(to, b"bb", 4, table, bytes, 1)
 }
 
-fn try_diamond() {
+fn try_diamond<W: Write>(to: &mut W) -> io::Result<()> {
     let mut table = [0u32; 28];
     let mut bytes = [0u8; 512];
     set_rows(&mut table, b"0000000 0810000 0810000 0821200");
     set_firsts(&mut bytes, b"\x00\xbb\xcc\xaa");
-    write_diamond(&table, &bytes);
+    write_diamond(to, &table, &bytes)
 }
 
 // Children that wait for a later parent, and children that one parent names more than once.
-fn write_order(table: &[u32], bytes: &[u8]) {
-    write_all(b"root, b, d", 7, table, bytes, 2);
-    write_all(b"d, b, d", 7, table, bytes, 3);
-    write_all(b"d four times", 7, table, bytes, 4);
-    write_all(b"all", 7, table, bytes, 6);
+fn write_order<W: Write>(to: &mut W, table: &[u32], bytes: &[u8]) -> io::Result<()> {
+    write_all(to, b"root, b, d", 7, table, bytes, 2)?;
+    write_all(to, b"d, b, d", 7, table, bytes, 3)?;
+    write_all(to, b"d four times", 7, table, bytes, 4)?;
+    write_all(to, b"all", 7, table, bytes, 6)
 }
 
-fn try_order() {
+fn try_order<W: Write>(to: &mut W) -> io::Result<()> {
     let mut table = [0u32; 49];
     let mut bytes = [0u8; 896];
     set_rows(
@@ -441,7 +482,7 @@ fn try_order() {
         b"0800000 0810000 0020100 0030100 0040000 0044232 0045051",
     );
     set_firsts(&mut bytes, b"\x0d\x0b");
-    write_order(&table, &bytes);
+    write_order(to, &table, &bytes)
 }
 
 // Cell i refers to the one before; no data.
@@ -462,18 +503,25 @@ fn set_chain(table: &mut [u32], n: usize) {
     }
 }
 
-fn write_chain(name: &[u8], count: usize, table: &[u32], bytes: &[u8], n: usize) {
-    write(name, count, table, bytes, n, with(false, false));
-    write(name, count, table, bytes, n, with(true, true));
+fn write_chain<W: Write>(
+    to: &mut W,
+    name: &[u8],
+    count: usize,
+    table: &[u32],
+    bytes: &[u8],
+    n: usize,
+) -> io::Result<()> {
+    write(to, name, count, table, bytes, n, with(false, false))?;
+    write(to, name, count, table, bytes, n, with(true, true))
 }
 
-fn try_chains() {
+fn try_chains<W: Write>(to: &mut W) -> io::Result<()> {
     let mut table = table_room();
     let bytes = bytes_room();
     set_chain(&mut table, 255);
-    write_chain(b"chain of 255", 255, &table, &bytes, 254);
+    write_chain(to, b"chain of 255", 255, &table, &bytes, 254)?;
     set_link(&mut table, 255);
-    write_chain(b"chain of 256", 256, &table, &bytes, 255);
+    write_chain(to, b"chain of 256", 256, &table, &bytes, 255)
 }
 
 // The number of the cell that stands so far before cell i, or 0.
@@ -542,25 +590,26 @@ fn set_first_bytes(bytes: &mut [u8], n: usize) {
     }
 }
 
-fn write_web(table: &[u32], bytes: &[u8]) {
-    write_all(b"web", WEB, table, bytes, WEB - 1);
-    write(b"part", WEB, table, bytes, 99, with(true, false));
-    write(b"part", WEB, table, bytes, 64, with(false, true));
+fn write_web<W: Write>(to: &mut W, table: &[u32], bytes: &[u8]) -> io::Result<()> {
+    write_all(to, b"web", WEB, table, bytes, WEB - 1)?;
+    write(to, b"part", WEB, table, bytes, 99, with(true, false))?;
+    write(to, b"part", WEB, table, bytes, 64, with(false, true))
 }
 
-fn try_web() {
+fn try_web<W: Write>(to: &mut W) -> io::Result<()> {
     let mut table = [0u32; WEB * RECORD_LEN];
     let mut bytes = web_bytes_room();
     set_web(&mut table, WEB);
     set_first_bytes(&mut bytes, WEB);
-    write_web(&table, &bytes);
+    write_web(to, &table, &bytes)
 }
 
-fn main() {
-    try_number();
-    try_bits();
-    try_diamond();
-    try_order();
-    try_chains();
-    try_web();
+fn main(rt: HostRuntime) -> io::Result<()> {
+    let mut to = rt.stdout();
+    try_number(&mut to)?;
+    try_bits(&mut to)?;
+    try_diamond(&mut to)?;
+    try_order(&mut to)?;
+    try_chains(&mut to)?;
+    try_web(&mut to)
 }
