@@ -1,4 +1,4 @@
-//! Links `libtapunerow.a`, which `rt staticlib tapunerow` makes in the project's `target/staticlib`. TAPUNEROW_LIB names another folder.
+//! Links `libtapunerow.a`, which `./make-archive` of the project's folder makes in `target/staticlib`. TAPUNEROW_LIB names another folder.
 //!
 //! Where it cannot be linked, the cfg `tapunerow_linked` is not set and TAPUNEROW_WHY says why in one line. What needs the library
 //! then stops with that line (src/linked.rs), what needs the model alone is built as ever, and a crate that depends on this one is not
@@ -8,7 +8,7 @@ use std::path::{Path, PathBuf};
 use std::{env, fs};
 
 /// What to do about an archive that is missing or is none.
-const MAKE_IT: &str = "run `rt staticlib tapunerow` in the project's folder first";
+const MAKE_IT: &str = "run `./make-archive` in the project's folder first";
 
 /// ELF's numbers of processors, and cargo's names of them.
 const PROCESSORS: [(u16, &str); 2] = [(62, "x86_64"), (183, "aarch64")];

@@ -1,5 +1,7 @@
-// The library for C and Rust to link: `include/tapunerow.h` declares these functions. Each is a thin face of a call of the library: the result is 0
-// or the refusal's number, and the lent answer takes the values, or the refusal's place in its first entry and 0 in the others.
+// The calls of the C interface: `include/tapunerow.h` declares them, and the crate `tapunerow_c` exports them. Each is a thin face of a call of the
+// library: the result is 0 or the refusal's number, and the lent answer takes the values, or the refusal's place in its first entry and 0 in the others.
+#![tactic(auto)]
+
 ghost use Rattle.std.specs.Prelude.{◌≡◌};
 ghost use Rattle.scheme.specs.Bits.{bit_of};
 ghost use Rattle.scheme.specs.Crc.{crc_of};
@@ -41,6 +43,7 @@ pub extern "C" fn tapunerow_clear(
 }
 
 // Adds the cell of the first bits of own and of these references. The answer: its number. Refuses CUT where own holds fewer bits, then as `store::add`.
+#[tactic(auto, unfolding(crate::specs::Outcomes::offering))]
 #[unsafe(no_mangle)]
 pub extern "C" fn tapunerow_add(
     count: &mut usize,

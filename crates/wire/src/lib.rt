@@ -1,4 +1,6 @@
 // What the C interface hands over, in the library's terms: a flag, and a cell from numbers and slices.
+#![tactic(auto)]
+
 ghost use Rattle.std.specs.Prelude.{◌≡◌, ◌*◌, not, eqb, leb};
 ghost use Rattle.builder.specs.Paper.{builder_of};
 ghost use Rattle.wire.specs.Wire.{fit, wire_cell};
