@@ -14,9 +14,9 @@ use Rattle.scheme.specs.Memory.{capacity, sized}
 use Rattle.scheme.specs.Calls.{onto}
 use Rattle.scheme.specs.Program.{spaced, refused_line, page_line, root_lines, read_lines, too_long, max_input, printed, ReportOut, told, afresh, reporting}
 use Rattle.laws.specs.Accept.{Small, then_use, check_inv}
-use Rattle.theorems.specs.Meaning.{read-means}
+use Rattle.theorems.proofs.Meaning.{read-means}
 use Rattle.theorems.specs.Grammar.{bag_of}
-use Rattle.theorems.specs.Accepts.{grammar}
+use Rattle.theorems.proofs.Accepts.{grammar}
 use Rattle.report.specs.Paper.{Reports, tells-printed}
 
 digits-few : (k n : ℕ) → length (digits k n) ≤ k
