@@ -1,59 +1,32 @@
 -- The turns of `add_each`, over plain variables. Assumes nothing.
+use Rattle.std.specs.Prelude.{Result, Ok, Err, IsErrAnd}
+use Rattle.std.specs.Result.{MatchResult}
 use Prim.Native.Nat.{ℕ, suc, ◌+◌, ◌*◌, ◌-◌, ◌<◌, ◌≤◌}
 use mathlib.Core.Path.{◌≡◌, refl, sym, ap, subst, ◌∙◌}
-use mathlib.Core.Bool.{Bool, true, false, not}
-use mathlib.Core.List.{List, [], ◌∷◌, ◌++◌, append-nil}
+use mathlib.Core.Bool.{Bool, true, false}
+use mathlib.Core.List.{List}
 use native.Mathlib.Numerals.{add-one}
 use native.Mathlib.Omega.{arith}
-use lib.ListN.{length, get_or, take, drop, set, length-take, length-drop}
-use lib.Dec.{eqb, leb}
+use lib.ListN.{length, take, set, length-take, length-drop}
+use lib.Dec.{leb}
 use Rattle.scheme.specs.Refusals.{STORE, REFS, FULL, BITS}
 use Rattle.scheme.specs.declared.Refusal.{Refusal}
-use Rattle.scheme.specs.Res.{Res, bad, ok, then, check, refusal}
+use Rattle.scheme.specs.Res.{Res, then, check, refusal}
 use Rattle.scheme.specs.Cells.{find, insert}
 use Rattle.scheme.specs.Memory.{capacity, cells_of, sound, held}
 use Rattle.scheme.specs.Builder.{Builder, cell_in}
 use Rattle.scheme.specs.Add.{Added, refs_held, add}
 use Rattle.scheme.specs.Calls.{StoreOut, add_out, adding}
 use Rattle.laws.specs.Accept.{then_use}
-use Rattle.laws.specs.Lists.{drop_all}
-use Rattle.laws.specs.Puts.{puts, puts-start}
 use Rattle.laws.specs.Unique.{find-le}
 use Rattle.laws.specs.Records.{sound-few, cells-length}
 use Rattle.laws.specs.Adding.{adding-holds}
 use Rattle.store.specs.Paper.{Adds}
-use Rattle.store.specs.declared.Added.{Added as Answer}
-use Rattle.store.specs.declared.Added.TheVariants.{Number, Refused}
-use Rattle.add_many.specs.Many.{builder_at, stop, ManyOut, after_one, many, many_paper, AddsMany}
-use Rattle.add_many.specs.declared.AddedMany.{AddedMany}
-use Rattle.add_many.specs.declared.AddedMany.TheVariants as added
-
--- ---- `cell_at`
-
-pub block-copied : (ds b x : List ℕ) (p : ℕ) → p + 128 ≤ length ds → length b ≡ 128 → x ≡ puts b 0 (take (p + 128 - p) (drop p ds)) → x ≡ take 128 (drop p ds)
-block-copied ds b x p h l e =
-    let q : p + 128 - p ≡ 128 = omega arith in
-    let m : length (take 128 (drop p ds)) ≡ 128 = simp (length-take, length-drop) (omega arith) in
-    e
-    ∙ ap (λ (k : ℕ). puts b 0 (take k (drop p ds))) q
-    ∙ puts-start b (take 128 (drop p ds)) (omega arith)
-    ∙ ap (λ (r : List ℕ). take 128 (drop p ds) ++ r) (drop_all b (length (take 128 (drop p ds))) (omega arith))
-    ∙ append-nil (take 128 (drop p ds))
-
-pub builder-is : (hs ds : List ℕ) (i len m : ℕ) (x : List ℕ) → x ≡ take 128 (drop (i * 128) ds) → len ≡ get_or hs (i * 7 + 1) 0 → m ≡ get_or hs (i * 7 + 2) 0
-    → record {
-      exotic = not (eqb (get_or hs (i * 7) 0) 0);
-      len = len;
-      bytes = x;
-      count = m;
-      refs = get_or hs (i * 7 + 3) 0 ∷ get_or hs (i * 7 + 4) 0 ∷ get_or hs
-          (i * 7 + 5) 0 ∷ get_or hs (i * 7 + 6) 0 ∷ [];
-    } ≡ builder_at hs ds i
-unfolding builder_at
-builder-is hs ds i len m x xe le me = rw (xe, le, me)
+use Rattle.add_many.specs.declared.Stop.{Stop}
+use Rattle.add_many.specs.Many.{builder_at, stopped, ManyOut, after_one, many, AddsMany}
 
 -- the number of an added cell is that of a record
-number_small : (cap n : ℕ) (t d : List ℕ) (b : Builder) (x : Added) → add cap (cells_of n t d) b ≡ ok x → sound n t d ≡ true → x.number ≤ 4096
+number_small : (cap n : ℕ) (t d : List ℕ) (b : Builder) (x : Added) → add cap (cells_of n t d) b ≡ Ok x → sound n t d ≡ true → x.number ≤ 4096
 unfolding add
 number_small cap n t d b x e s =
     then_use (check (leb b.len 1023) (refusal BITS 0)) _ _ e λ u₁ x₁ e₁.
@@ -69,8 +42,8 @@ pub bytes-long : (hs ds : List ℕ) (i : ℕ) → i * 128 + 128 ≤ length ds �
 unfolding builder_at
 bytes-long hs ds i h = simp (length-take, length-drop) (omega arith)
 
-pub adds-as : (n : ℕ) (t d : List ℕ) (b c : Builder) (r s : Answer) (n' : ℕ) (t' d' : List ℕ) → b ≡ c → r ≡ s → Adds n t d b r n' t' d' → Adds n t d c s n' t' d'
-adds-as n t d b c r s n' t' d' p q a = subst (λ (x : Builder). Adds n t d x s n' t' d') p (subst (λ (x : Answer). Adds n t d b x n' t' d') q a)
+pub adds-as : (n : ℕ) (t d : List ℕ) (b c : Builder) (r s : Res ℕ) (n' : ℕ) (t' d' : List ℕ) → b ≡ c → r ≡ s → Adds n t d b r n' t' d' → Adds n t d c s n' t' d'
+adds-as n t d b c r s n' t' d' p q a = subst (λ (x : Builder). Adds n t d x s n' t' d') p (subst (λ (x : Res ℕ). Adds n t d b x n' t' d') q a)
 
 module _ (hs ds : List ℕ) (k i n : ℕ) (t d xs : List ℕ) (X : ManyOut) (h : i < k) (q : many hs ds (k - i) i n t d xs ≡ X) where
   abbrev o : StoreOut ℕ
@@ -84,7 +57,7 @@ module _ (hs ds : List ℕ) (k i n : ℕ) (t d xs : List ℕ) (X : ManyOut) (h :
   unfolding many
   turn = rw left at q
 
-  module _ (m n' : ℕ) (t' d' : List ℕ) (a : Adds n t d (builder_at hs ds i) (Number m) n' t' d') where
+  module _ (m n' : ℕ) (t' d' : List ℕ) (a : Adds n t d (builder_at hs ds i) (Ok m) n' t' d') where
     pub turn-next : many hs ds (k - (i + 1)) (i + 1) n' t' d' (set xs i m) ≡ X
     turn-next =
         ap (λ (j : ℕ). many hs ds (k - (i + 1)) j n' t' d' (set xs i m)) (add-one i)
@@ -101,26 +74,26 @@ module _ (hs ds : List ℕ) (k i n : ℕ) (t d xs : List ℕ) (X : ManyOut) (h :
     pub turn_small : sound n t d ≡ true → m ≤ 4096
     unfolding adding held
     turn_small s = go (add (capacity t) (cells_of n t d) (builder_at hs ds i)) refl (a.answer ∙ ap
-        (λ (b : Bool). (add_out n t d (then (then (check b (refusal STORE 0)) (λ _. ok (cells_of n t d))) λ c. add (capacity t) c (builder_at hs ds i))).answer) s)
+        (λ (b : Bool). (add_out n t d (then (then (check b (refusal STORE 0)) (λ _. Ok (cells_of n t d))) λ c. add (capacity t) c (builder_at hs ds i))).answer) s)
       where
-        go : (r : Res Added) → add (capacity t) (cells_of n t d) (builder_at hs ds i) ≡ r → ok m ≡ (add_out n t d r).answer → m ≤ 4096
-        go (bad b) e z = absurd (let y : ◌≡◌ {A = ℕ} 0 1 = cc in omega arith)
-        go (ok x) e z = let y : m ≡ x.number = cc in omega (arith, number_small (capacity t) n t d (builder_at hs ds i) x e s)
+        go : (r : Res Added) → add (capacity t) (cells_of n t d) (builder_at hs ds i) ≡ r → Ok m ≡ (add_out n t d r).answer → m ≤ 4096
+        go (Err b) e z = absurd (let y : ◌≡◌ {A = ℕ} 0 1 = cc in omega arith)
+        go (Ok x) e z = let y : m ≡ x.number = cc in omega (arith, number_small (capacity t) n t d (builder_at hs ds i) x e s)
 
   pub turn-stop : (r : Refusal) (n' : ℕ) (t' d' : List ℕ) → Adds n t d (builder_at hs ds i)
-      (Refused r) n' t' d' → record { answer = stop i r; count = n'; table = t'; bytes = d'; numbers = xs } ≡ X
+      (Err r) n' t' d' → record { answer = stopped i r; count = n'; table = t'; bytes = d'; numbers = xs } ≡ X
   turn-stop r n' t' d' a =
-      ap (λ (x : ℕ). record { answer = stop i r; count = x; table = t'; bytes = d'; numbers = xs }) a.count
-      ∙ ap (λ (x : List ℕ). record { answer = stop i r; count = o.count; table = x; bytes = d'; numbers = xs }) a.table
-      ∙ ap (λ (x : List ℕ). record { answer = stop i r; count = o.count; table = o.table; bytes = x; numbers = xs }) a.bytes
+      ap (λ (x : ℕ). record { answer = stopped i r; count = x; table = t'; bytes = d'; numbers = xs }) a.count
+      ∙ ap (λ (x : List ℕ). record { answer = stopped i r; count = o.count; table = x; bytes = d'; numbers = xs }) a.table
+      ∙ ap (λ (x : List ℕ). record { answer = stopped i r; count = o.count; table = o.table; bytes = x; numbers = xs }) a.bytes
       ∙ ap (λ (x : Res ℕ). after_one i o xs (λ z. many hs ds (k - (i + 1)) (suc i) o.count o.table o.bytes (set xs i z)) x) a.answer
       ∙ turn
 
 -- ---- the ways out
 
 module _ (hs ds : List ℕ) (k n : ℕ) (t d xs : List ℕ) where
-  pub many_is : (r : AddedMany) (n' : ℕ)
-      (t' d' xs' : List ℕ) → record { answer = many_paper r; count = n'; table = t'; bytes = d'; numbers = xs' } ≡ many hs ds k 0 n t d xs → AddsMany hs ds k n t d xs r n' t' d' xs'
+  pub many_is : (r : Result (Unit {0}) Stop) (n' : ℕ)
+      (t' d' xs' : List ℕ) → record { answer = r; count = n'; table = t'; bytes = d'; numbers = xs' } ≡ many hs ds k 0 n t d xs → AddsMany hs ds k n t d xs r n' t' d' xs'
   many_is r n' t' d' xs' e =
       record {
         answer = ap (λ (o : ManyOut). o.answer) e;
@@ -134,23 +107,35 @@ module _ (hs ds : List ℕ) (k n : ℕ) (t d xs : List ℕ) where
   many-start = let z : k - 0 ≡ k = omega arith in ap (λ (j : ℕ). many hs ds j 0 n t d xs) z
 
   -- none are left
-  pub many-end : (i n' : ℕ) (t' d' xs' : List ℕ) → k ≤ i → many hs ds (k - i) i n' t' d' xs' ≡ many hs ds k 0 n t d xs → AddsMany hs ds k n t d xs added.All n' t' d' xs'
+  pub many-end : (i n' : ℕ) (t' d' xs' : List ℕ) → k ≤ i → many hs ds (k - i) i n' t' d' xs' ≡ many hs ds k 0 n t d xs → AddsMany hs ds k n t d xs (Ok tt) n' t' d' xs'
   unfolding many
   many-end i n' t' d' xs' h e =
       let z : k - i ≡ 0 = omega arith in
-      many_is added.All n' t' d' xs' (rw z at e)
+      many_is (Ok tt) n' t' d' xs' (rw z at e)
 
-  pub many-none : k ≡ 0 → AddsMany hs ds k n t d xs added.All n t d xs
+  pub many-none : k ≡ 0 → AddsMany hs ds k n t d xs (Ok tt) n t d xs
   unfolding many
-  many-none e = many_is added.All n t d xs (sym (ap (λ (j : ℕ). many hs ds j 0 n t d xs) e))
+  many-none e = many_is (Ok tt) n t d xs (sym (ap (λ (j : ℕ). many hs ds j 0 n t d xs) e))
 
-  pub many-store : (k ≡ 0 → ⊥) → sound n t d ≡ false → AddsMany hs ds k n t d xs (added.Stopped (record { cell = 0; refusal = refusal STORE 0 })) n t d xs
+  pub many-store : (k ≡ 0 → ⊥) → sound n t d ≡ false → AddsMany hs ds k n t d xs (stopped 0 (refusal STORE 0)) n t d xs
   unfolding many adding held
   many-store h s =
       let z : k ≡ suc (k - 1) = omega arith in
-      many_is (added.Stopped (record { cell = 0; refusal = refusal STORE 0 })) n t d xs (rw (z, s))
+      many_is (stopped 0 (refusal STORE 0)) n t d xs (rw (z, s))
 
 -- by another name of k
-pub many-as : (hs ds : List ℕ) (k j n : ℕ) (t d xs : List ℕ) (r : AddedMany) (n' : ℕ) (t' d' xs' : List ℕ) → k ≡ j → AddsMany hs ds k n t d xs r n' t' d' xs'
+pub many-as : (hs ds : List ℕ) (k j n : ℕ) (t d xs : List ℕ) (r : Result (Unit {0}) Stop) (n' : ℕ) (t' d' xs' : List ℕ) → k ≡ j → AddsMany hs ds k n t d xs r n' t' d' xs'
     → AddsMany hs ds j n t d xs r n' t' d' xs'
 many-as hs ds k j n t d xs r n' t' d' xs' e a = subst (λ (m : ℕ). AddsMany hs ds m n t d xs r n' t' d' xs') e a
+
+-- a refused add stops the batch: the exit of the `?`
+pub stopped-at : (P : Refusal → Stop → Type 0) (i : ℕ) (x : Res ℕ) (y : Result ℕ Stop) (s : Stop) (z : Result (Unit {0}) Stop)
+    → MatchResult x (λ n. y ≡ Ok n) (λ e. IsErrAnd y (P e)) → y ≡ Err s → ((e : Refusal) → P e s → s ≡ record { cell = i; refusal = e })
+    → IsErrAnd z (λ t. t ≡ s)
+    → (x ≡ Err s.refusal) × (z ≡ stopped i s.refusal)
+stopped-at P i (Ok n) y s z m w h f = absurd (let q : ◌≡◌ {A = ℕ} 0 1 = cc in omega arith)
+stopped-at P i (Err e) y s (Ok u) m w h f = elim f [ ]
+stopped-at P i (Err e) y s (Err t) m w h f =
+    let q : s ≡ record { cell = i; refusal = e } = h e (rw w at m) in
+    let k : t ≡ s = f in
+    rw (k, q) (refl, refl)

@@ -1,16 +1,17 @@
 -- A bag by place is the bag of the definitions: the ways out of what follows the cells, and the parts put together. Assumes nothing.
-use Rattle.std.specs.Prelude.{◌≡◌, ℕ, ◌≤◌, Bool, not, ◌||◌, List, length, take}
+use Rattle.std.specs.Prelude.{◌≡◌, ℕ, ◌≤◌, Bool, not, ◌||◌, List, length, take, Ok, Err}
 use Rattle.std.proofs.Math.Path.{refl}
 use Rattle.std.proofs.Common.{sym, ap, ◌∙◌, arith, get_or-take}
 use Rattle.std.proofs.Math.Dec.{leb}
 use Rattle.scheme.specs.Refusals.{EXTRA}
-use Rattle.scheme.specs.Res.{Res, bad, ok, then, check, refusal}
+use Rattle.scheme.specs.Res.{Res, then, check, mapped, refusal}
 use Rattle.scheme.specs.declared.Refusal.{Refusal}
 use Rattle.scheme.specs.Cells.{Cell}
 use Rattle.scheme.specs.Bag.{Past, raw_cells, checksum, links, roots_ok, bag}
 use Rattle.laws.specs.Accept.{then_use}
 use Rattle.laws.specs.Puts.{puts, puts-length}
 use Rattle.bits.specs.Field.{numbers_at}
+use Rattle.bits.specs.Then.{then_same}
 use Rattle.header.specs.Header.{header_at}
 use Rattle.header.proofs.Bag.{bag-header}
 use Rattle.header.specs.Tie.{roots_in, after_head}
@@ -19,39 +20,11 @@ use Rattle.header.specs.declared.Header.{Header}
 use Rattle.bag.specs.Places.{cells_at, places, scanned}
 use Rattle.bag.specs.Scan.{Seen, scan_seen, marks-front}
 use Rattle.bag.specs.Links.{extra_ok}
-use Rattle.bag.specs.Paper.{opened, after_scan, AreCells, marks, opening_cells, OpensCells, opening, marked, Opens, bag_of, paper_of, Kept}
+use Rattle.bag.specs.Paper.{after_scan, AreCells, marks, opening_cells, opening, marked, Opens, bag_of, Kept}
 use Rattle.bag.specs.declared.OpenBag.{OpenBag}
-use Rattle.bag.specs.declared.BagAnswer.{BagAnswer}
-use Rattle.bag.specs.declared.BagAnswer.TheVariants.{Open, Refused}
-
--- the ways out
-module _ (b : List ℕ) (whole : Bool) (h : Header) (m : List ℕ) (p : ℕ) where
-  pub after_crc : (r : Refusal) → checksum h.checked b p ≡ bad r → bad r ≡ after_scan b whole h m p
-  unfolding after_scan
-  after_crc r e = rw e
-
-  module _ (used : ℕ) (e₁ : checksum h.checked b p ≡ ok used) where
-    pub after_extra : (r : Refusal) → extra_ok whole used (length b) ≡ bad r → bad r ≡ after_scan b whole h m p
-    unfolding after_scan
-    after_extra r e = rw (e₁, e)
-
-    module _ (e₂ : extra_ok whole used (length b) ≡ ok tt) where
-      pub after-links : (r : Refusal) → links 0 h.cells (cells_at b h.size (take h.cells m)) ≡ bad r → bad r ≡ after_scan b whole h m p
-      unfolding after_scan
-      after-links r e = rw (e₁, e₂, e)
-
-      module _ (e₃ : links 0 h.cells (cells_at b h.size (take h.cells m)) ≡ ok tt) where
-        pub after-roots : (r : Refusal) → roots_ok 0 h.cells (numbers_at b h.size h.roots h.list) ≡ bad r → bad r ≡ after_scan b whole h m p
-        unfolding after_scan
-        after-roots r e = rw (e₁, e₂, e₃, e)
-
-        pub after-all : roots_ok 0 h.cells (numbers_at b h.size h.roots h.list) ≡ ok tt
-            → ok (record { size = h.size; cells = h.cells; roots = h.roots; list = h.list; used = used }) ≡ after_scan b whole h m p
-        unfolding after_scan
-        after-all e = rw (e₁, e₂, e₃, e)
 
 -- a scan that came to its end read the cells
-scanned-inv : (b : List ℕ) (size n p e : ℕ) → scanned b size n p ≡ ok e → (cs : Past (List Cell)) × (raw_cells b size n p ≡ ok cs) × (cs.next ≡ e)
+scanned-inv : (b : List ℕ) (size n p e : ℕ) → scanned b size n p ≡ Ok e → (cs : Past (List Cell)) × (raw_cells b size n p ≡ Ok cs) × (cs.next ≡ e)
 unfolding scanned
 scanned-inv b size n p e x = then_use (raw_cells b size n p) _ _ x λ cs y z. (cs, y, cc)
 
@@ -60,67 +33,52 @@ module _ (b : List ℕ) (size n p : ℕ) (s m : List ℕ) (is : m ≡ puts s 0 (
   pub marks-long : length m ≡ length s
   marks-long = rw is (puts-length s 0 (places b size n p))
 
-  pub marks-seen : (cs : Past (List Cell)) → raw_cells b size n p ≡ ok cs → Seen b size n (take n m) cs.it
+  pub marks-seen : (cs : Past (List Cell)) → raw_cells b size n p ≡ Ok cs → Seen b size n (take n m) cs.it
   marks-seen cs e =
       let S = scan_seen b size n p cs e in
       let q : take n m ≡ places b size n p = rw is (marks-front s (places b size n p) n S.many room) in
       rw q S
 
-  pub marks-cells : (e : ℕ) → scanned b size n p ≡ ok e → AreCells b size n m
+  pub marks-cells : (e : ℕ) → scanned b size n p ≡ Ok e → AreCells b size n m
   marks-cells e x =
       let c = scanned-inv b size n p e x in
       let S = marks-seen c.0 c.1 in
       λ k h. rw (← get_or-take n m k 0 h) (S.whole k h)
 
--- the two ends of a scan
-module _ (b : List ℕ) (whole : Bool) (h : Header) (s m : List ℕ) (is : m ≡ puts s 0 (places b h.size h.cells h.first)) where
-  pub scan_stops : (r : Refusal) → scanned b h.size h.cells h.first ≡ bad r → OpensCells b whole h s (Refused r) m
-  unfolding opening_cells marks
-  scan_stops r e = record { answer = rw e; scratch = is }
-
-  pub scan_ends : (p : ℕ) (r : BagAnswer) → scanned b h.size h.cells h.first ≡ ok p → opened r ≡ after_scan b whole h m p → OpensCells b whole h s r m
-  unfolding opening_cells marks
-  scan_ends p r e a = record { answer = rw e (rw is at a); scratch = is }
+-- a step, and then an answer in other words
+mapped-then : {A B C : Type 0} (f : B → C) (x : Res A) (g : A → Res B) → mapped f (then x g) ≡ then x λ a. mapped f (g a)
+mapped-then f (Err r) g = refl
+mapped-then f (Ok a) g = refl
 
 -- an answer as a bag
-paper_is : (b m : List ℕ) (r : BagAnswer) → paper_of b m r ≡ then (opened r) λ o. ok (bag_of b m o)
-paper_is b m (Open o) = refl
-paper_is b m (Refused r) = refl
-
 module _ (b : List ℕ) (whole : Bool) (h : Header) (m : List ℕ) where
   abbrev open_at : ℕ → OpenBag
   open_at used = record { size = h.size; cells = h.cells; roots = h.roots; list = h.list; used = used }
 
   -- what follows the cells cs, which end at place p
   after_is : (cs : List Cell) (p : ℕ) → cells_at b h.size (take h.cells m) ≡ cs
-      → then (after_scan b whole h m p) (λ o. ok (bag_of b m o))
+      → mapped (bag_of b m) (after_scan b whole h m p)
       ≡ (then (checksum h.checked b p) λ end.
       then (check (not whole || leb (length b) end) (refusal EXTRA end)) λ _.
       then (links 0 h.cells cs) λ _.
       then (roots_ok 0 h.cells (roots_in b h)) λ _.
-      ok (record { used = end; cells = cs; roots = roots_in b h }))
+      Ok (record { used = end; cells = cs; roots = roots_in b h }))
   unfolding after_scan
-  after_is cs p e = rw (← e) (first (checksum h.checked b p) (λ end. check (not whole || leb (length b) end) (refusal EXTRA end)) (links 0 h.cells (cells_at b h.size (take h.cells m))) (roots_ok 0 h.cells (roots_in b h)))
-    where
-      fourth : (used : ℕ) (w : Res (Unit {0})) → then (then w λ _. ok (open_at used)) (λ o. ok (bag_of b m o)) ≡ then w λ _. ok (bag_of b m (open_at used))
-      fourth used (bad r) = refl
-      fourth used (ok u) = refl
-
-      third : (used : ℕ) (z w : Res (Unit {0})) → then (then z λ _. then w λ _. ok (open_at used)) (λ o. ok (bag_of b m o)) ≡ then z λ _. then w λ _. ok (bag_of b m (open_at used))
-      third used (bad r) w = refl
-      third used (ok u) w = fourth used w
-
-      second : (used : ℕ) (y z w : Res (Unit {0})) → then (then y λ _. then z λ _. then w λ _. ok (open_at used)) (λ o. ok (bag_of b m o)) ≡ then y λ _. then z λ _. then w λ _. ok (bag_of b m (open_at used))
-      second used (bad r) z w = refl
-      second used (ok u) z w = third used z w
-
-      first : (x : Res ℕ) (y : ℕ → Res (Unit {0})) (z w : Res (Unit {0}))
-          → then (then x λ used. then (y used) λ _. then z λ _. then w λ _. ok (open_at used)) (λ o. ok (bag_of b m o)) ≡ then x λ used. then (y used) λ _. then z λ _. then w λ _. ok (bag_of b m (open_at used))
-      first (bad r) y z w = refl
-      first (ok used) y z w = second used (y used) z w
+  after_is cs p e =
+      let x = checksum h.checked b p in
+      let y = λ (end : ℕ). check (not whole || leb (length b) end) (refusal EXTRA end) in
+      let z = links 0 h.cells (cells_at b h.size (take h.cells m)) in
+      let w = roots_ok 0 h.cells (roots_in b h) in
+      rw (← e) (mapped-then (bag_of b m) x _
+      ∙ then_same x λ used _.
+      mapped-then (bag_of b m) (y used) _
+      ∙ then_same (y used) λ _ _.
+      mapped-then (bag_of b m) z _
+      ∙ then_same z λ _ _.
+      mapped-then (bag_of b m) w _)
 
   -- a bag that is opened has the header's counts and places
-  after_open : (p : ℕ) (o : OpenBag) → after_scan b whole h m p ≡ ok o → (used : ℕ) × (o ≡ open_at used)
+  after_open : (p : ℕ) (o : OpenBag) → after_scan b whole h m p ≡ Ok o → (used : ℕ) × (o ≡ open_at used)
   unfolding after_scan
   after_open p o e =
       then_use (checksum h.checked b p) _ _ e λ used x₁ e₁.
@@ -129,35 +87,25 @@ module _ (b : List ℕ) (whole : Bool) (h : Header) (m : List ℕ) where
       then_use (roots_ok 0 h.cells (numbers_at b h.size h.roots h.list)) _ _ e₃ λ u₄ x₄ e₄.
       (used, cc)
 
--- the two ways out of the header
-module _ (b : List ℕ) (whole : Bool) (rooms : ℕ) (s : List ℕ) where
-  pub no_header : (r : Refusal) → header_at b (length s) rooms ≡ bad r → Opens b whole rooms s (Refused r) s
-  unfolding opening marked
-  no_header r e = record { answer = rw e; scratch = rw e }
-
-  pub opens : (h : Header) → header_at b (length s) rooms ≡ ok h → (r : BagAnswer) (m : List ℕ) → OpensCells b whole h s r m → Opens b whole rooms s r m
-  unfolding opening marked
-  opens h e r m O = record { answer = rw e O.answer; scratch = rw e O.scratch }
-
 -- what an answer and a scratch that keep the promise come to
-module _ (b : List ℕ) (whole : Bool) (rooms : ℕ) (s : List ℕ) (r : BagAnswer) (m : List ℕ) (O : Opens b whole rooms s r m) where
+module _ (b : List ℕ) (whole : Bool) (rooms : ℕ) (s : List ℕ) (r : Res OpenBag) (m : List ℕ) (O : Opens b whole rooms s r m) where
   -- after a header that is refused
-  module _ (q : Refusal) (e : header_at b (length s) rooms ≡ bad q) where
+  module _ (q : Refusal) (e : header_at b (length s) rooms ≡ Err q) where
     none-scratch : m ≡ s
     unfolding marked
     none-scratch = O.scratch ∙ rw e
 
-    none-answer : opened r ≡ bad q
+    none-answer : r ≡ Err q
     unfolding opening
     none-answer = O.answer ∙ rw e
 
   -- after a header h
-  module _ (h : Header) (e : header_at b (length s) rooms ≡ ok h) where
+  module _ (h : Header) (e : header_at b (length s) rooms ≡ Ok h) where
     is : m ≡ puts s 0 (places b h.size h.cells h.first)
     unfolding marked marks
     is = O.scratch ∙ rw e
 
-    cells-answer : opened r ≡ then (scanned b h.size h.cells h.first) λ p. after_scan b whole h m p
+    cells-answer : r ≡ then (scanned b h.size h.cells h.first) λ p. after_scan b whole h m p
     unfolding opening opening_cells marks
     cells-answer = rw is (O.answer ∙ rw e)
 
@@ -167,24 +115,25 @@ module _ (b : List ℕ) (whole : Bool) (rooms : ℕ) (s : List ℕ) (r : BagAnsw
     long : length m ≡ length s
     long = marks-long b h.size h.cells h.first s m is room
 
-    seen : (cs : Past (List Cell)) → raw_cells b h.size h.cells h.first ≡ ok cs → Seen b h.size h.cells (take h.cells m) cs.it
+    seen : (cs : Past (List Cell)) → raw_cells b h.size h.cells h.first ≡ Ok cs → Seen b h.size h.cells (take h.cells m) cs.it
     seen = marks-seen b h.size h.cells h.first s m is room
 
-    answer : paper_of b m r ≡ after_head whole b h.size h.cells h.checked (roots_in b h) h.first
+    answer : mapped (bag_of b m) r ≡ after_head whole b h.size h.cells h.checked (roots_in b h) h.first
     unfolding scanned
     answer = go (raw_cells b h.size h.cells h.first) refl
       where
-        go : (x : Res (Past (List Cell))) → raw_cells b h.size h.cells h.first ≡ x → paper_of b m r ≡ after_head whole b h.size h.cells h.checked (roots_in b h) h.first
-        go (bad y) q =
-            let a : opened r ≡ bad y = cells-answer ∙ rw q in
-            paper_is b m r ∙ rw (a, q)
-        go (ok cs) q =
-            let a : opened r ≡ after_scan b whole h m cs.next = cells-answer ∙ rw q in
-            paper_is b m r ∙ rw (a, q) (after_is b whole h m cs.it cs.next (seen cs q).cells)
+        go : (x : Res (Past (List Cell))) → raw_cells b h.size h.cells h.first ≡ x
+            → mapped (bag_of b m) r ≡ after_head whole b h.size h.cells h.checked (roots_in b h) h.first
+        go (Err y) q =
+            let a : r ≡ Err y = cells-answer ∙ rw q in
+            rw (a, q)
+        go (Ok cs) q =
+            let a : r ≡ after_scan b whole h m cs.next = cells-answer ∙ rw q in
+            rw (a, q) (after_is b whole h m cs.it cs.next (seen cs q).cells)
 
-    kept : (o : OpenBag) → r ≡ Open o → Kept b rooms m o
+    kept : (o : OpenBag) → r ≡ Ok o → Kept b rooms m o
     kept o q =
-        then_use (scanned b h.size h.cells h.first) _ _ (sym cells-answer ∙ ap opened q) λ p x₁ e₁.
+        then_use (scanned b h.size h.cells h.first) _ _ (sym cells-answer ∙ q) λ p x₁ e₁.
         let u = after_open b whole h m p o e₁ in
         let w = header-within b (length s) rooms h e in
         rw u.1 (record {
@@ -197,29 +146,29 @@ module _ (b : List ℕ) (whole : Bool) (rooms : ℕ) (s : List ℕ) (r : BagAnsw
         })
 
   -- the answer is the bag of the definitions
-  pub opens-bag : paper_of b m r ≡ bag whole (length s) rooms b
+  pub opens-bag : mapped (bag_of b m) r ≡ bag whole (length s) rooms b
   opens-bag = go (header_at b (length s) rooms) refl
     where
-      go : (x : Res Header) → header_at b (length s) rooms ≡ x → paper_of b m r ≡ bag whole (length s) rooms b
-      go (bad q) e =
-          let a : bag whole (length s) rooms b ≡ bad q = bag-header whole (length s) rooms b ∙ rw e in
-          paper_is b m r ∙ rw (none-answer q e, a)
-      go (ok h) e = answer h e ∙ sym (bag-header whole (length s) rooms b ∙ rw e)
+      go : (x : Res Header) → header_at b (length s) rooms ≡ x → mapped (bag_of b m) r ≡ bag whole (length s) rooms b
+      go (Err q) e =
+          let a : bag whole (length s) rooms b ≡ Err q = bag-header whole (length s) rooms b ∙ rw e in
+          rw (none-answer q e, a)
+      go (Ok h) e = answer h e ∙ sym (bag-header whole (length s) rooms b ∙ rw e)
 
   pub opens-long : length m ≡ length s
   opens-long = go (header_at b (length s) rooms) refl
     where
       go : (x : Res Header) → header_at b (length s) rooms ≡ x → length m ≡ length s
-      go (bad q) e = ap length (none-scratch q e)
-      go (ok h) e = long h e
+      go (Err q) e = ap length (none-scratch q e)
+      go (Ok h) e = long h e
 
   -- what is opened keeps to the limits, and its cells can be read
-  pub opens_kept : (o : OpenBag) → r ≡ Open o → Kept b rooms m o
+  pub opens_kept : (o : OpenBag) → r ≡ Ok o → Kept b rooms m o
   opens_kept o z = go (header_at b (length s) rooms) refl
     where
       go : (x : Res Header) → header_at b (length s) rooms ≡ x → Kept b rooms m o
-      go (bad q) e =
-          let n : bad q ≡ ok o = sym (none-answer q e) ∙ ap opened z in
+      go (Err q) e =
+          let n : Err q ≡ Ok o = sym (none-answer q e) ∙ z in
           let y : ◌≡◌ {A = ℕ} 0 1 = cc in
           absurd (omega arith)
-      go (ok h) e = kept h e o z
+      go (Ok h) e = kept h e o z

@@ -1,8 +1,8 @@
 -- One cell of a scan, and what a scan that comes to its end has seen. Assumes nothing.
-use Rattle.std.specs.Prelude.{◌≡◌, ℕ, zero, suc, ◌+◌, ◌≤◌, ◌<◌, List, [], ◌∷◌, ◌++◌, length, take, drop, get_or, set}
+use Rattle.std.specs.Prelude.{◌≡◌, ℕ, zero, suc, ◌+◌, ◌≤◌, ◌<◌, List, [], ◌∷◌, ◌++◌, length, take, drop, get_or, set, Ok, Err}
 use Rattle.std.proofs.Math.Path.{refl}
 use Rattle.std.proofs.Common.{ap, not-suc-le-zero, le_of_suc-le-suc, arith, take_at}
-use Rattle.scheme.specs.Res.{Res, bad, ok, then}
+use Rattle.scheme.specs.Res.{Res, then}
 use Rattle.scheme.specs.declared.Refusal.{Refusal}
 use Rattle.scheme.specs.Cells.{Cell, at}
 use Rattle.scheme.specs.Bag.{Past, raw_cell, raw_cells}
@@ -11,36 +11,36 @@ use Rattle.laws.specs.Accept.{then_use}
 use Rattle.bag.specs.Places.{IsCell, cell_at, cells_at, places, scanned}
 
 module _ (b : List ℕ) (size n p : ℕ) where
-  pub scan_cell : (c : Past Cell) → raw_cell b size p ≡ ok c → scanned b size (suc n) p ≡ scanned b size n c.next
+  pub scan_cell : (c : Past Cell) → raw_cell b size p ≡ Ok c → scanned b size (suc n) p ≡ scanned b size n c.next
   unfolding scanned
   scan_cell c e = rw e (go (raw_cells b size n c.next))
     where
-      go : (r : Res (Past (List Cell))) → then (then r λ cs. ok (record { it = c.it ∷ cs.it; next = cs.next })) (λ (cs : Past (List Cell)). ok cs.next) ≡ then r λ cs. ok cs.next
-      go (bad x) = refl
-      go (ok x) = refl
+      go : (r : Res (Past (List Cell))) → then (then r λ cs. Ok (record { it = c.it ∷ cs.it; next = cs.next })) (λ (cs : Past (List Cell)). Ok cs.next) ≡ then r λ cs. Ok cs.next
+      go (Err x) = refl
+      go (Ok x) = refl
 
-  pub scan_refused : (r : Refusal) → raw_cell b size p ≡ bad r → scanned b size (suc n) p ≡ bad r
+  pub scan_refused : (r : Refusal) → raw_cell b size p ≡ Err r → scanned b size (suc n) p ≡ Err r
   unfolding scanned
   scan_refused r e = rw e
 
-  pub places-cell : (c : Past Cell) → raw_cell b size p ≡ ok c → places b size (suc n) p ≡ p ∷ places b size n c.next
+  pub places-cell : (c : Past Cell) → raw_cell b size p ≡ Ok c → places b size (suc n) p ≡ p ∷ places b size n c.next
   unfolding places
   places-cell c e = rw e
 
-  pub places-refused : (r : Refusal) → raw_cell b size p ≡ bad r → places b size (suc n) p ≡ p ∷ []
+  pub places-refused : (r : Refusal) → raw_cell b size p ≡ Err r → places b size (suc n) p ≡ p ∷ []
   unfolding places
   places-refused r e = rw e
 
   -- the places, written into the scratch from entry i on
-  pub marks-cell : (c : Past Cell) (i : ℕ) (s : List ℕ) → raw_cell b size p ≡ ok c → puts s i (places b size (suc n) p) ≡ puts (set s i p) (i + 1) (places b size n c.next)
+  pub marks-cell : (c : Past Cell) (i : ℕ) (s : List ℕ) → raw_cell b size p ≡ Ok c → puts s i (places b size (suc n) p) ≡ puts (set s i p) (i + 1) (places b size n c.next)
   unfolding puts
   marks-cell c i s e = rw (places-cell c e)
 
-  pub marks-refused : (r : Refusal) (i : ℕ) (s : List ℕ) → raw_cell b size p ≡ bad r → puts s i (places b size (suc n) p) ≡ set s i p
+  pub marks-refused : (r : Refusal) (i : ℕ) (s : List ℕ) → raw_cell b size p ≡ Err r → puts s i (places b size (suc n) p) ≡ set s i p
   unfolding puts
   marks-refused r i s e = rw (places-refused r e)
 
-pub scan_none : (b : List ℕ) (size p : ℕ) → scanned b size 0 p ≡ ok p
+pub scan_none : (b : List ℕ) (size p : ℕ) → scanned b size 0 p ≡ Ok p
 unfolding scanned
 scan_none b size p = refl
 
@@ -48,7 +48,7 @@ pub places-none : (b : List ℕ) (size p : ℕ) → places b size 0 p ≡ []
 unfolding places
 places-none b size p = refl
 
-pub cell-is : (b : List ℕ) (size p : ℕ) (c : Past Cell) → raw_cell b size p ≡ ok c → cell_at b size p ≡ c.it
+pub cell-is : (b : List ℕ) (size p : ℕ) (c : Past Cell) → raw_cell b size p ≡ Ok c → cell_at b size p ≡ c.it
 unfolding cell_at
 cell-is b size p c e = rw e
 
@@ -74,7 +74,7 @@ pub record Seen (b : List ℕ) (size n : ℕ) (ps : List ℕ) (cs : List Cell) :
   pub cells : cells_at b size ps ≡ cs
   pub whole : (k : ℕ) → k < n → IsCell b size (get_or ps k 0)
 
-pub scan_seen : (b : List ℕ) (size n p : ℕ) (cs : Past (List Cell)) → raw_cells b size n p ≡ ok cs → Seen b size n (places b size n p) cs.it
+pub scan_seen : (b : List ℕ) (size n p : ℕ) (cs : Past (List Cell)) → raw_cells b size n p ≡ Ok cs → Seen b size n (places b size n p) cs.it
 unfolding places cells_at
 scan_seen b size zero p cs e = let q : [] ≡ cs.it = cc in record { many = refl; cells = q; whole = λ k h. absurd (not-suc-le-zero h) }
 scan_seen b size (suc n) p cs e =
@@ -83,7 +83,7 @@ scan_seen b size (suc n) p cs e =
     let q : c.it ∷ ds.it ≡ cs.it = cc in
     rw (x₁, ← q) (step c ds.it x₁ (scan_seen b size n c.next ds x₂))
   where
-    step : (c : Past Cell) (ds : List Cell) → raw_cell b size p ≡ ok c → Seen b size n (places b size n c.next) ds → Seen b size (suc n) (p ∷ places b size n c.next) (c.it ∷ ds)
+    step : (c : Past Cell) (ds : List Cell) → raw_cell b size p ≡ Ok c → Seen b size n (places b size n c.next) ds → Seen b size (suc n) (p ∷ places b size n c.next) (c.it ∷ ds)
     step c ds e S = record { many = ap suc S.many; cells = rw (cell-is b size p c e, S.cells); whole = whole }
       where
         whole : (k : ℕ) → k < suc n → IsCell b size (get_or (p ∷ places b size n c.next) k 0)

@@ -1,25 +1,24 @@
 -- Fields of the bytes b at a place p, with the place behind them.
-use Rattle.std.specs.Prelude.{ℕ, zero, suc, ◌+◌, ◌-◌, ◌*◌, List, [], ◌∷◌, length, take, drop}
-use Rattle.scheme.specs.Res.{Res, ok, then}
+use Rattle.std.specs.Prelude.{ℕ, zero, suc, ◌+◌, ◌-◌, ◌*◌, List, [], ◌∷◌, length, take, drop, Ok}
+use Rattle.scheme.specs.Res.{Res, then}
 use Rattle.scheme.specs.Bytes.{unbe, chunk, field, fields}
-use Rattle.scheme.specs.Bag.{Past}
 
 abbrev pub last_eight : List ℕ → List ℕ
 last_eight xs = drop (length xs - 8) xs
 
 -- the number of n bytes; of more than eight bytes that of the last eight
-unfoldable pub field_at : List ℕ → ℕ → ℕ → Res (Past ℕ)
-field_at b p n = then (chunk b p n) λ xs. ok (record { it = unbe 0 (last_eight xs); next = p + n })
+unfoldable pub field_at : List ℕ → ℕ → ℕ → Res (ℕ × ℕ)
+field_at b p n = then (chunk b p n) λ xs. Ok (unbe 0 (last_eight xs), p + n)
 
-unfoldable pub byte_at : List ℕ → ℕ → Res (Past ℕ)
-byte_at b p = then (field b p 1) λ x. ok (record { it = x; next = p + 1 })
+unfoldable pub byte_at : List ℕ → ℕ → Res (ℕ × ℕ)
+byte_at b p = then (field b p 1) λ x. Ok (x, p + 1)
 
 -- the place behind n bytes, and behind n fields of k bytes
 unfoldable pub skip_at : List ℕ → ℕ → ℕ → Res ℕ
-skip_at b p n = then (chunk b p n) λ xs. ok (p + n)
+skip_at b p n = then (chunk b p n) λ xs. Ok (p + n)
 
 unfoldable pub skip_fields_at : List ℕ → ℕ → ℕ → ℕ → Res ℕ
-skip_fields_at b k n p = then (fields b k n p) λ xs. ok (p + n * k)
+skip_fields_at b k n p = then (fields b k n p) λ xs. Ok (p + n * k)
 
 -- the number of the k bytes at place p, and the n numbers from p on, where they are whole
 abbrev pub number_at : List ℕ → ℕ → ℕ → ℕ

@@ -1,51 +1,36 @@
 // A cell in the making. Each step takes the builder by value and hands it back with the verdict, unchanged on refusal.
 #![tactic(auto)]
 
-ghost use Rattle.std.specs.Prelude.{◌≡◌, ◌+◌, ◌*◌, ◌/◌, ◌^◌, ◌<◌, ◌≤◌, leb, length, get_or, set, replicate};
-ghost use Rattle.scheme.specs.Bits.{bit_of, bytes_for, bits_of, first_bits};
-ghost use Rattle.scheme.specs.Builder.{new_builder, put_bits, appended, repeated, referred};
-ghost use Rattle.scheme.specs.Res.{bad, ok, refusal};
-ghost use Rattle.builder.specs.Paper.{builder_of, longer, Builds};
+ghost use Rattle.std.specs.Prelude.{◌≡◌, ℕ, List, ◌+◌, ◌*◌, ◌/◌, ◌^◌, ◌<◌, ◌≤◌, leb, length, get_or, set, Ok, Err};
+ghost use Rattle.scheme.specs.Bits.{bit_of, bits_of};
+ghost use Rattle.scheme.specs.Builder.{new_builder, put_bits, with_bits, appended, repeated, referred};
+ghost use Rattle.scheme.specs.Res.{refusal};
+ghost use Rattle.builder.specs.Paper.{builder_of, Yields, Builds};
 
-use scheme::{BITS, CUT, DATA_LEN, MAX_BITS_LEN, MAX_REFS_COUNT, REFS, Refusal};
+use scheme::{DATA_LEN, MAX_BITS_LEN, MAX_REFS_COUNT, Reason, Refusal};
 
-// Bits past `len`, the high one of a byte first, and references past `count` may be anything.
-#[derive(Clone, Copy)]
+// Bits past `len`, the high one of a byte first, and references past `count` may be anything. Arrays with a length beside them: there is no heap.
+#[derive(Clone, Copy, Debug, PartialEq, Eq)]
 pub struct CellBuilder {
     pub exotic: bool,
     pub len: usize,
     pub bytes: [u8; DATA_LEN],
     pub count: usize,
-    pub refs: [u32; 4],
+    pub refs: [u32; MAX_REFS_COUNT],
 }
 
-#[derive(Clone, Copy)]
-pub enum Verdict {
-    Done,
-    Refused(Refusal),
-}
-
-#[derive(Clone, Copy)]
+// What a step hands back: the builder on refusal too, which a Result alone would lose, so that a chain goes on.
+#[derive(Clone, Copy, Debug, PartialEq, Eq)]
 pub struct Built {
     pub builder: CellBuilder,
-    pub verdict: Verdict,
-}
-
-// The fewest bytes that hold n bits, for any n: n + 7 may pass the largest number.
-fn bytes_for(n: usize) -> usize
-    ensures { result ≡ bytes_for n }
-{
-    if n % 8 == 0 { n / 8 } else { n / 8 + 1 }
+    pub verdict: Result<(), Refusal>,
 }
 
 // Whether n bits more stay within the limit, by the exact sum: len + n may pass the largest number.
 fn bits_fit(len: usize, n: usize) -> bool
     ensures { result ≡ leb (len + n) 1023 }
 {
-    if len > MAX_BITS_LEN {
-        return false;
-    }
-    n <= MAX_BITS_LEN - len
+    len <= MAX_BITS_LEN && n <= MAX_BITS_LEN - len
 }
 
 // Bit k of a byte, the high one first, alone.
@@ -71,37 +56,21 @@ fn write_bit(bytes: &mut [u8], at: usize, bit: bool)
 {
     let m = mask(at % 8);
     if bit {
-        bytes[at / 8] = bytes[at / 8] | m;
+        bytes[at / 8] |= m;
     } else {
-        bytes[at / 8] = bytes[at / 8] & !m;
+        bytes[at / 8] &= !m;
     }
 }
 
-// Puts the first n bits of `from` in from bit `at` on.
-fn copy_bits(bytes: &mut [u8], at: usize, n: usize, from: &[u8])
+// Puts n bits in from bit `at` on: bit i of them is `bit(i)`.
+fn write_all<F: Fn(usize) -> bool>(bytes: &mut [u8], at: usize, n: usize, bit: F)
     requires bytes_len { length bytes.old ≡ 128 }
     requires n_bound { at + n ≤ 1023 }
-    requires n_bound_2 { n ≤ 8 * length from.now }
-    ensures { bytes.new ≡ put_bits bytes.old at (first_bits n from.now) }
+    requires asked { (i : ℕ) → i < n → F.pre bit i }
+    ensures { (xs : List ℕ) → length xs ≡ n → Yields (F.post bit) xs → bytes.new ≡ put_bits bytes.old at xs }
 {
-    let mut i = 0;
-    while i < n {
-        let bit = bit_at(from, i);
-        write_bit(bytes, at + i, bit);
-        i += 1;
-    }
-}
-
-// Puts a bit in n times, from bit `at` on.
-fn fill_bits(bytes: &mut [u8], at: usize, n: usize, bit: bool)
-    requires bytes_len { length bytes.old ≡ 128 }
-    requires n_bound { at + n ≤ 1023 }
-    ensures { bytes.new ≡ put_bits bytes.old at (replicate n (bit_of bit)) }
-{
-    let mut i = 0;
-    while i < n {
-        write_bit(bytes, at + i, bit);
-        i += 1;
+    for i in 0..n {
+        write_bit(bytes, at + i, bit(i));
     }
 }
 
@@ -110,7 +79,7 @@ impl CellBuilder {
     pub fn new(exotic: bool) -> Self
         ensures { builder_of result ≡ new_builder exotic }
     {
-        CellBuilder {
+        Self {
             exotic,
             len: 0,
             bytes: [0u8; DATA_LEN],
@@ -120,75 +89,76 @@ impl CellBuilder {
     }
 
     // Appends the first n bits of `from`.
+    #[tactic(auto, unfolding(scheme::specs::Builder::appended))]
     pub fn write_bits(self, n: usize, from: &[u8]) -> Built
         ensures { Builds (builder_of self) (appended (builder_of self) n from.now) result }
     {
-        let len = self.len;
-        if from.len() < bytes_for(n) {
-            return self.refused(CUT);
+        if from.len() < n.div_ceil(8) {
+            return self.refused(Reason::Cut);
         }
-        if !bits_fit(len, n) {
-            return self.refused(BITS);
+        if !bits_fit(self.len, n) {
+            return self.refused(Reason::Bits);
         }
-        let mut bytes = self.bytes;
-        copy_bits(&mut bytes, len, n, from);
-        self.with_bits(n, bytes)
+        self.with_bits(n, |i| bit_at(from, i))
     }
 
     // Appends a bit n times.
+    #[tactic(auto, unfolding(scheme::specs::Builder::repeated))]
     pub fn repeat_bit(self, n: usize, bit: bool) -> Built
         ensures { Builds (builder_of self) (repeated (builder_of self) n bit) result }
     {
-        let len = self.len;
-        if !bits_fit(len, n) {
-            return self.refused(BITS);
+        if !bits_fit(self.len, n) {
+            return self.refused(Reason::Bits);
         }
-        let mut bytes = self.bytes;
-        fill_bits(&mut bytes, len, n, bit);
-        self.with_bits(n, bytes)
+        self.with_bits(n, |_| bit)
     }
 
     // Appends a reference: the number of a cell.
+    #[tactic(auto, unfolding(scheme::specs::Builder::referred))]
     pub fn store_reference(self, r: u32) -> Built
         ensures { Builds (builder_of self) (referred (builder_of self) r) result }
     {
         let count = self.count;
         if count >= MAX_REFS_COUNT {
-            return self.refused(REFS);
+            return self.refused(Reason::Refs);
         }
         let mut refs = self.refs;
         refs[count] = r;
-        let mut builder = self;
-        builder.refs = refs;
-        builder.count = count + 1;
         Built {
-            builder,
-            verdict: Verdict::Done,
+            builder: Self {
+                count: count + 1,
+                refs,
+                ..self
+            },
+            verdict: Ok(()),
         }
     }
 
     // Handed back as it is.
-    fn refused(self, number: u32) -> Built
-        ensures { Builds (builder_of self) (bad (refusal number 0)) result }
+    fn refused(self, reason: Reason) -> Built
+        ensures { Builds (builder_of self) (Err (refusal reason 0)) result }
     {
-        let refusal = Refusal { number, place: 0 };
         Built {
             builder: self,
-            verdict: Verdict::Refused(refusal),
+            verdict: Err(reason.at(0)),
         }
     }
 
-    // With n bits more, which the bytes have.
-    fn with_bits(self, n: usize, bytes: [u8; DATA_LEN]) -> Built
-        requires { self.len + n ≤ 1023 }
-        ensures { Builds (builder_of self) (ok (longer (builder_of self) n bytes)) result }
+    // With n bits more: bit i of them is `bit(i)`.
+    fn with_bits<F: Fn(usize) -> bool>(self, n: usize, bit: F) -> Built
+        requires n_bound { self.len + n ≤ 1023 }
+        requires asked { (i : ℕ) → i < n → F.pre bit i }
+        ensures { (xs : List ℕ) → length xs ≡ n → Yields (F.post bit) xs → Builds (builder_of self) (Ok (with_bits (builder_of self) n xs)) result }
     {
-        let mut builder = self;
-        builder.len = self.len + n;
-        builder.bytes = bytes;
+        let mut bytes = self.bytes;
+        write_all(&mut bytes, self.len, n, bit);
         Built {
-            builder,
-            verdict: Verdict::Done,
+            builder: Self {
+                len: self.len + n,
+                bytes,
+                ..self
+            },
+            verdict: Ok(()),
         }
     }
 }

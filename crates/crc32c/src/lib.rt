@@ -265,18 +265,12 @@ const TABLE: [u32; 256] = [
     0xad7d_5351,
 ];
 
-fn word(b: u8) -> u32
-    ensures { result ≡ b }
-{
-    b as u32
-}
-
 // The state after one byte more, by the table.
 fn crc_byte(table: &[u32; 256], crc: u32, b: u8) -> u32
     requires { table.now ≡ crc_table }
     ensures { result ≡ crc_byte crc b }
 {
-    let i = ((crc ^ word(b)) % 256) as usize;
+    let i = ((crc ^ u32::from(b)) % 256) as usize;
     table[i] ^ (crc >> 8)
 }
 
@@ -286,8 +280,8 @@ fn crc_run(crc: u32, bytes: &[u8]) -> u32
 {
     let table = TABLE;
     let mut state = crc;
-    for i in 0..bytes.len() {
-        state = crc_byte(&table, state, bytes[i]);
+    for b in bytes {
+        state = crc_byte(&table, state, *b);
     }
     state
 }

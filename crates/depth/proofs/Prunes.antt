@@ -3,7 +3,7 @@ use mathlib.Core.Path.{◌≡◌, refl, sym, ◌∙◌}
 use mathlib.Core.Bool.{Bool, true, false, cond}
 use mathlib.Core.List.{List, map}
 use Prim.Native.Nat.{ℕ, ◌+◌, ◌*◌, ◌/◌, ◌<◌, ◌≤◌, min}
-use native.Mathlib.Nat.{add-zero}
+use native.Mathlib.Nat.{add-zero, add_assoc}
 use native.Mathlib.Omega.{arith}
 use lib.ListN.{length, get_or, length-take, length-drop}
 use lib.Seq.{get_or-take, get_or-drop}
@@ -14,7 +14,7 @@ use Rattle.scheme.specs.Memory.{cell_at}
 use Rattle.scheme.specs.Depth.{over, is_pruned, pruned_depth, depth_step}
 use Rattle.laws.specs.Records.{CellOk}
 use Rattle.laws.specs.Passes.{Caps, over-cut}
-use Rattle.depth.specs.declared.Pruned.TheVariants.{Is, Not}
+use Rattle.std.specs.Prelude.{Some, None}
 use Rattle.depth.specs.Pruned.{pruned_of}
 
 -- of record i: x is the flag, b the number of data bytes
@@ -36,12 +36,12 @@ module _ (t d : List ℕ) (i x b : ℕ) (ok : CellOk t d i) (ex : x ≡ get_or t
       let l : k < (get_or t (i * 7 + 1) 0 + 7) / 8 = omega arith in
       rw (get_or-take, get_or-drop)
 
-  pub not-exotic : (x ≡ 1 → ⊥) → pruned_of c ≡ Not
+  pub not-exotic : (x ≡ 1 → ⊥) → pruned_of c ≡ None
   unfolding is_pruned
   not-exotic p = rw (flag, ne_eqb x 1 p)
 
   module _ (p : x ≡ 1) where
-    pub not-long : b < 36 → pruned_of c ≡ Not
+    pub not-long : b < 36 → pruned_of c ≡ None
     unfolding is_pruned
     not-long q = rw (flag, eq-eqb x 1 p, many, lt-leb 36 b q)
 
@@ -49,7 +49,7 @@ module _ (t d : List ℕ) (i x b : ℕ) (ok : CellOk t d i) (ex : x ≡ get_or t
       first : get_or c.bytes 0 0 ≡ get_or d (i * 128) 0
       first = byte 0 (omega arith) ∙ rw add-zero
 
-      pub not_first : (get_or d (i * 128) 0 ≡ 1 → ⊥) → pruned_of c ≡ Not
+      pub not_first : (get_or d (i * 128) 0 ≡ 1 → ⊥) → pruned_of c ≡ None
       unfolding is_pruned
       not_first r = rw (flag, eq-eqb x 1 p, many, le-leb 36 b q, first, ne_eqb (get_or d (i * 128) 0) 1 r)
 
@@ -57,14 +57,13 @@ module _ (t d : List ℕ) (i x b : ℕ) (ok : CellOk t d i) (ex : x ≡ get_or t
         abbrev n : ℕ
         n = ones (get_or d (i * 128 + 1) 0)
 
-        pub not-whole : (b ≡ 2 + 34 * n → ⊥) → pruned_of c ≡ Not
+        pub not-whole : (b ≡ 2 + 34 * n → ⊥) → pruned_of c ≡ None
         unfolding is_pruned
         not-whole s = rw (flag, eq-eqb x 1 p, many, le-leb 36 b q, first, eq-eqb (get_or d (i * 128) 0) 1 r, byte 1 (omega arith), ne_eqb b (2 + 34 * n) s)
 
-        pub is_pruned_lem : b ≡ 2 + 34 * n → pruned_of c ≡ Is (get_or d (i * 128 + (2 + 32 * n)) 0 * 256 + get_or d (i * 128 + (3 + 32 * n)) 0)
+        pub is_pruned_lem : b ≡ 2 + 34 * n → pruned_of c ≡ Some (get_or d (i * 128 + (2 + 32 * n)) 0 * 256 + get_or d (i * 128 + (2 + 32 * n) + 1) 0)
         unfolding is_pruned pruned_depth
         is_pruned_lem s =
-            let e : 2 + 32 * n + 1 ≡ 3 + 32 * n = omega arith in
             rw (
               flag,
               eq-eqb x 1 p,
@@ -75,26 +74,26 @@ module _ (t d : List ℕ) (i x b : ℕ) (ok : CellOk t d i) (ex : x ≡ get_or t
               byte 1 (omega arith),
               eq-eqb b (2 + 34 * n) s,
               byte (2 + 32 * n) (omega arith),
-              e,
-              byte (3 + 32 * n) (omega arith),
+              byte (2 + 32 * n + 1) (omega arith),
+              ← add_assoc (i * 128) (2 + 32 * n) 1,
             )
 
 -- ---- a step
 
-pub step_is : (c : Cell) (x : ℕ) (vs : List ℕ) → pruned_of c ≡ Is x → depth_step c vs ≡ x
+pub step_is : (c : Cell) (x : ℕ) (vs : List ℕ) → pruned_of c ≡ Some x → depth_step c vs ≡ x
 unfolding depth_step
 step_is c x vs e = go (is_pruned c) e
   where
-    go : (b : Bool) → cond b (Is (pruned_depth c)) Not ≡ Is x → cond b (pruned_depth c) (over vs) ≡ x
+    go : (b : Bool) → cond b (Some (pruned_depth c)) None ≡ Some x → cond b (pruned_depth c) (over vs) ≡ x
     go true e = cc
-    go false e = let z : ◌≡◌ {A = ℕ} 0 1 = cc in absurd (omega arith)
+    go false e = cc
 
-pub step-not : (c : Cell) (vs : List ℕ) → pruned_of c ≡ Not → depth_step c vs ≡ over vs
+pub step-not : (c : Cell) (vs : List ℕ) → pruned_of c ≡ None → depth_step c vs ≡ over vs
 unfolding depth_step
 step-not c vs e = go (is_pruned c) e
   where
-    go : (b : Bool) → cond b (Is (pruned_depth c)) Not ≡ Not → cond b (pruned_depth c) (over vs) ≡ over vs
-    go true e = let z : ◌≡◌ {A = ℕ} 0 1 = cc in absurd (omega arith)
+    go : (b : Bool) → cond b (Some (pruned_depth c)) None ≡ None → cond b (pruned_depth c) (over vs) ≡ over vs
+    go true e = cc
     go false e = refl
 
 -- the step may cut the depths that it is given before it cuts its own

@@ -1,17 +1,20 @@
 // The depth of a cell: a pass by number over the stored cells, with one scratch entry a cell.
 #![tactic(auto)]
 
-ghost use Rattle.std.specs.Prelude.{◌≡◌, ◌+◌, ◌*◌, ◌≤◌, ◌<◌, min, ◌++◌, map, length, drop};
+ghost use Rattle.std.specs.Prelude.{◌≡◌, ◌≤◌, ◌<◌, min, length};
+ghost use Rattle.std.specs.List.{FoldsTo};
+ghost use Rattle.scheme.specs.Res.{mapped};
 ghost use Rattle.scheme.specs.Memory.{cell_at};
-ghost use Rattle.scheme.specs.Fold.{pick, below};
+ghost use Rattle.scheme.specs.Fold.{pick};
 ghost use Rattle.scheme.specs.Depth.{over, depth_step};
-ghost use Rattle.scheme.specs.Calls.{measuring};
-ghost use Rattle.laws.specs.Records.{refs_at, RecordOk, CellOk, CellsOk};
-ghost use Rattle.depth.specs.Paper.{paper_of, Measures};
+ghost use Rattle.scheme.specs.Calls.{lent, measuring};
+ghost use Rattle.laws.specs.Records.{refs_at, RecordOk, CellOk};
+ghost use Rattle.depth.specs.Paper.{Measures};
+ghost use Rattle.depth.specs.Pass.{Turns};
 ghost use Rattle.depth.specs.Pruned.{pruned_of};
 
-use memory::{BITS_LEN, EXOTIC, FIRST_REF, REFS_COUNT, field, zero_numbers};
-use scheme::{DATA_LEN, DEPTH, MAX_DEPTH, NOCELL, Refusal, SCRATCH, STORE};
+use memory::{BITS_LEN, Cells, EXOTIC, FIRST_REF, REFS_COUNT, field};
+use scheme::{DATA_LEN, MAX_DEPTH, Reason, Refusal};
 use sound::is_sound;
 
 // Depths are cut one above the greatest that is answered, so that no sum overflows.
@@ -27,11 +30,35 @@ const HASH_LEN: usize = 32;
 
 const LEVEL_LEN: usize = 34;
 
-// The lesser of two numbers. Interface between crates.
-pub fn least(a: u32, b: u32) -> u32
-    ensures { result ≡ min a b }
+// A pass by number over the first n cells: from 0 up, each gets what the step answers to the numbers so far. Interface between crates.
+pub fn pass<F: Fn(&[u32], usize) -> u32>(n: usize, scratch: &mut [u32], step: F)
+    requires callable { (s : _) (i : _) → i < n → length s.now ≡ length scratch.old → F.pre step s i }
+    requires n_in_bounds { n ≤ length scratch.old }
+    ensures { Turns (λ s i r. F.post step s i r) n scratch.old scratch.new }
 {
-    if a < b { a } else { b }
+    for i in 0..n {
+        scratch[i] = step(scratch, i);
+    }
+}
+
+// The numbers at record i's references, taken into `start` one by one. Interface between crates.
+pub fn fold_refs<F: Fn(u32, u32) -> u32>(
+    table: &[u32],
+    scratch: &[u32],
+    i: usize,
+    start: u32,
+    step: F,
+) -> u32
+    requires record_ok { RecordOk table.now i }
+    requires i_in_bounds { i ≤ length scratch.now }
+    requires callable { F.IsAlwaysCallable step }
+    ensures { FoldsTo (λ h x r. F.post step h x r) start (pick 0 scratch.now (refs_at table.now i)) result }
+{
+    let mut h = start;
+    for j in 0..field(table, i, REFS_COUNT) {
+        h = step(h, scratch[field(table, i, FIRST_REF + j)]);
+    }
+    h
 }
 
 // One more than the greatest of the numbers at record i's references, 0 without references, and at
@@ -41,138 +68,95 @@ pub fn over_refs(table: &[u32], scratch: &[u32], i: usize, cap: u32) -> u32
     requires i_in_bounds { i ≤ length scratch.now }
     ensures { result ≡ min cap (over (pick 0 scratch.now (refs_at table.now i))) }
 {
-    let k = field(table, i, REFS_COUNT);
-    let mut j = 0;
-    let mut h = 0;
-    while j < k {
-        let r = field(table, i, FIRST_REF + j);
-        let x = scratch[r];
-        if h <= x {
-            if x < cap {
-                h = x + 1;
-            } else {
-                h = cap;
-            }
-        }
-        j += 1;
-    }
-    h
+    fold_refs(
+        table,
+        scratch,
+        i,
+        0,
+        |h, x| h.max(x.saturating_add(1).min(cap)),
+    )
 }
 
-// The depth that a pruned branch names.
-#[derive(Drop)]
-pub enum Pruned {
-    Is(u32),
-    Not,
-}
-
-fn wide(x: u8) -> u32
-    ensures { (result ≡ x) × (result < 256) }
+// The depth that cell i names, if it is a pruned branch.
+fn pruned_at(cells: Cells, i: usize) -> Option<u32>
+    requires { CellOk cells.table.now cells.bytes.now i }
+    ensures { result ≡ pruned_of (cell_at cells.entry.table.now cells.entry.bytes.now i) }
 {
-    x as u32
-}
-
-// Whether cell i is a pruned branch, and the depth that it names.
-fn pruned_at(table: &[u32], bytes: &[u8], i: usize) -> Pruned
-    requires { CellOk table.now bytes.now i }
-    ensures { result ≡ pruned_of (cell_at table.now bytes.now i) }
-{
-    let exotic = field(table, i, EXOTIC);
+    let exotic = cells.field(i, EXOTIC);
     if exotic != 1 {
-        return Pruned::Not;
+        return None;
     }
-    let len = (field(table, i, BITS_LEN) + 7) / 8;
+    let len = cells.field(i, BITS_LEN).div_ceil(8);
     if len < PRUNED_LEN {
-        return Pruned::Not;
+        return None;
     }
+    let bytes = cells.bytes;
     let from = i * DATA_LEN;
-    let first = bytes[from];
-    if first != PRUNED_TYPE {
-        return Pruned::Not;
+    if bytes[from] != PRUNED_TYPE {
+        return None;
     }
-    let levels = u8::count_ones(bytes[from + 1]) as usize;
+    let levels = bytes[from + 1].count_ones() as usize;
     if len != 2 + LEVEL_LEN * levels {
-        return Pruned::Not;
+        return None;
     }
     let p = from + (2 + HASH_LEN * levels);
-    let q = from + (3 + HASH_LEN * levels);
-    Pruned::Is(wide(bytes[p]) * 256 + wide(bytes[q]))
+    Some(u32::from(bytes[p]) * 256 + u32::from(bytes[p + 1]))
 }
 
 // The depth of cell i from those of the cells before it, at most cap.
-fn depth_step(table: &[u32], bytes: &[u8], scratch: &[u32], i: usize, cap: u32) -> u32
-    requires cell_ok { CellOk table.now bytes.now i }
+fn depth_step(cells: Cells, scratch: &[u32], i: usize, cap: u32) -> u32
+    requires cell_ok { CellOk cells.table.now cells.bytes.now i }
     requires i_in_bounds { i ≤ length scratch.now }
-    ensures { result ≡ min cap (depth_step (cell_at table.now bytes.now i) (pick 0 scratch.now (refs_at table.now i))) }
+    ensures { result ≡ min cap (depth_step (cell_at cells.entry.table.now cells.entry.bytes.now i)
+        (pick 0 scratch.now (refs_at cells.entry.table.now i))) }
 {
-    let p = pruned_at(table, bytes, i);
-    match p {
-        Pruned::Is(x) => least(cap, x),
-        Pruned::Not => over_refs(table, scratch, i, cap),
+    match pruned_at(cells, i) {
+        Some(x) => x.min(cap),
+        None => over_refs(cells.table, scratch, i, cap),
     }
 }
 
-// The depths of the first n cells, each at most cap, from 0 up.
-fn all_depths(table: &[u32], bytes: &[u8], n: usize, cap: u32, scratch: &mut [u32])
-    requires cells_ok { CellsOk table.now bytes.now n }
-    requires n_in_bounds { n ≤ length scratch.old }
-    ensures { scratch.new ≡ map (min cap) (below depth_step 0 (cell_at table.now bytes.now) n) ++ drop n scratch.old }
+// STORE, NOCELL or SCRATCH, unless cell n is one of a sound store and the scratch has an entry for each cell. Interface between crates.
+pub fn check_lent(store: Cells, n: usize, scratch_len: usize) -> Result<(), Refusal>
+    ensures { result ≡ mapped (λ _. tt) (lent 1 store.entry.count store.entry.table.now store.entry.bytes.now n scratch_len) }
 {
-    let mut i = 0;
-    while i < n {
-        let h = depth_step(table, bytes, scratch, i, cap);
-        scratch[i] = h;
-        i += 1;
+    if !is_sound(store) {
+        return Err(Reason::Store.at(0));
     }
-}
-
-// The depth of a cell, or why there is none.
-#[derive(Drop)]
-pub enum Depth {
-    Levels(usize),
-    Refused(Refusal),
+    let count = store.count;
+    if count <= n {
+        return Err(Reason::NoCell.at(0));
+    }
+    if scratch_len < count {
+        return Err(Reason::Scratch.at(count));
+    }
+    Ok(())
 }
 
 // The answer of max_depth; the scratch holds anything afterwards.
-fn depth_at(count: usize, table: &[u32], bytes: &[u8], n: usize, scratch: &mut [u32]) -> Depth
-    ensures { paper_of result ≡ (measuring count table.now bytes.now n scratch.old).answer }
+fn depth_at(store: Cells, n: usize, scratch: &mut [u32]) -> Result<usize, Refusal>
+    ensures { result ≡ (measuring store.entry.count store.entry.table.now store.entry.bytes.now n scratch.old).answer }
 {
-    if !is_sound(count, table, bytes) {
-        return Depth::Refused(Refusal {
-            number: STORE,
-            place: 0,
-        });
-    }
-    if count <= n {
-        return Depth::Refused(Refusal {
-            number: NOCELL,
-            place: 0,
-        });
-    }
-    if scratch.len() < count {
-        return Depth::Refused(Refusal {
-            number: SCRATCH,
-            place: count,
-        });
-    }
-    all_depths(table, bytes, n + 1, CAP, scratch);
+    check_lent(store, n, scratch.len())?;
+    pass(
+        n + 1,
+        scratch,
+        |scratch, i| depth_step(store, scratch, i, CAP),
+    );
     let h = scratch[n] as usize;
     if MAX_DEPTH < h {
-        return Depth::Refused(Refusal {
-            number: DEPTH,
-            place: 0,
-        });
+        return Err(Reason::Depth.at(0));
     }
-    Depth::Levels(h)
+    Ok(h)
 }
 
 // The depth of cell n of the store: of a pruned branch the one that it names, of any other 0 without
 // references, else one more than the greatest of its references. The scratch needs an entry for
 // each stored cell and is all 0 afterwards.
-pub fn max_depth(count: usize, table: &[u32], bytes: &[u8], n: usize, scratch: &mut [u32]) -> Depth
-    ensures { Measures count table.now bytes.now n scratch.old result scratch.new }
+pub fn max_depth(store: Cells, n: usize, scratch: &mut [u32]) -> Result<usize, Refusal>
+    ensures { Measures store.entry.count store.entry.table.now store.entry.bytes.now n scratch.old result scratch.new }
 {
-    let d = depth_at(count, table, bytes, n, scratch);
-    zero_numbers(scratch);
+    let d = depth_at(store, n, scratch);
+    scratch.fill(0);
     d
 }

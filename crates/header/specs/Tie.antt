@@ -1,18 +1,18 @@
 -- The header by place is what the definitions read before the cells. Assumes nothing.
-use Rattle.std.specs.Prelude.{ℕ, ◌+◌, ◌*◌, ◌≤◌, ◌≡◌, Bool, cond, not, ◌||◌, List, length, leb}
+use Rattle.std.specs.Prelude.{ℕ, ◌+◌, ◌*◌, ◌≤◌, ◌≡◌, Bool, cond, not, ◌||◌, List, length, leb, Ok, Err}
 use Rattle.std.proofs.Math.Path.{refl}
 use Rattle.std.proofs.Common.{◌∙◌, arith, lit≤}
 use borrow.Author.Tests.{leb-true}
 use Rattle.laws.specs.Accept.{check_inv}
 use Rattle.scheme.specs.Refusals.{SIZE, OFFSET, COUNTS, CELLS, SCRATCH, ROOTROOM, EXTRA}
-use Rattle.scheme.specs.Res.{Res, bad, ok, then, check, refusal}
+use Rattle.scheme.specs.Res.{Res, then, check, refusal}
 use Rattle.scheme.specs.Bytes.{field}
 use Rattle.scheme.specs.Layout.{tag_ok, layout}
-use Rattle.scheme.specs.Bag.{Header as Fields, header, Past, numbers, root_list, index, raw_cells, checksum, links, roots_ok, Bag, bag}
+use Rattle.scheme.specs.Bag.{Header as Fields, header, Past, numbers, root_list, index, raw_cells, checksum, links, roots_ok, Bag}
 use Rattle.bits.specs.Field.{byte_at, skip_fields_at, numbers_at}
 use Rattle.bits.specs.Then.{then_same, then-then, then-first}
 use Rattle.bits.specs.Laws.{chunk-cases, field_is, skip-whole, skip-cut, skip-fields-end, fields-are}
-use Rattle.header.specs.Header.{flags_at, checked_counts, counts_at, places_at, header_at}
+use Rattle.header.specs.Header.{layout_of, flags_at, checked_counts, counts_at, places_at, header_at}
 use Rattle.header.specs.declared.Header.{Header}
 
 -- the roots of a header in the bytes b, as bag places
@@ -47,13 +47,13 @@ list_past xs q = record { it = xs; next = q }
 abbrev listed : List ℕ → ℕ → ℕ → ℕ → ℕ → Past (List ℕ)
 listed b k n p q = list_past (numbers_at b k n p) q
 
-numbers-are : (b : List ℕ) (k n p : ℕ) → numbers b k n p ≡ then (skip_fields_at b k n p) λ q. ok (listed b k n p q)
+numbers-are : (b : List ℕ) (k n p : ℕ) → numbers b k n p ≡ then (skip_fields_at b k n p) λ q. Ok (listed b k n p q)
 unfolding numbers
 numbers-are b k n p = rw (fields-are b k n p) (go (skip_fields_at b k n p) refl)
   where
-    go : (x : Res ℕ) → skip_fields_at b k n p ≡ x → then (then x λ q. ok (numbers_at b k n p)) (λ xs. ok (list_past xs (p + n * k))) ≡ then x λ q. ok (listed b k n p q)
-    go (bad r) e = refl
-    go (ok q) e = rw (skip-fields-end b k n p q e).0
+    go : (x : Res ℕ) → skip_fields_at b k n p ≡ x → then (then x λ q. Ok (numbers_at b k n p)) (λ xs. Ok (list_past xs (p + n * k))) ≡ then x λ q. Ok (listed b k n p q)
+    go (Err r) e = refl
+    go (Ok q) e = rw (skip-fields-end b k n p q e).0
 
 -- what is done with a header: the bytes of a bag place, the cells, whether a checksum is there, the roots, and the place of the first cell
 module _ {A : Type 0} (K : ℕ → ℕ → Bool → List ℕ → ℕ → Res A) (b : List ℕ) where
@@ -69,7 +69,7 @@ module _ {A : Type 0} (K : ℕ → ℕ → Bool → List ℕ → ℕ → Res A) 
   -- total, root list and index
   places_tie : (tag flags off cells roots p : ℕ)
       → then (field b p off) (λ total. after_fields (record { shape = layout tag flags; off = off; cells = cells; roots = roots; next = p + off }))
-      ≡ then (places_at b (record { shape = layout tag flags; off = off }) (record { cells = cells; roots = roots; next = p })) after_header
+      ≡ then (places_at b (record { layout = layout_of (layout tag flags); off = off }) (record { cells = cells; roots = roots; next = p })) after_header
   unfolding places_at root_list index layout field
   places_tie tag flags off cells roots p =
       chunk-cases b p off
@@ -79,27 +79,27 @@ module _ {A : Type 0} (K : ℕ → ℕ → Bool → List ℕ → ℕ → Res A) 
       (λ h e. rw (e, skip-cut b p off h))
     where
       first : (x : Res ℕ)
-          → then (then x λ q. ok (listed b (layout tag flags).size roots (p + off) q))
+          → then (then x λ q. Ok (listed b (layout tag flags).size roots (p + off) q))
           (λ rs.
           then (numbers b off (cond (layout tag flags).has_idx cells 0) rs.next) λ es.
           K (layout tag flags).size cells (layout tag flags).has_crc rs.it es.next)
           ≡ then
           (then x λ q.
           then (skip_fields_at b off (cond (layout tag flags).has_idx cells 0) q) λ first.
-          ok (record { checked = (layout tag flags).has_crc; size = (layout tag flags).size; cells = cells; roots = roots; list = p + off; first = first }))
+          Ok (record { checked = (layout tag flags).has_crc; size = (layout tag flags).size; cells = cells; roots = roots; list = p + off; first = first }))
           after_header
-      first (bad r) = refl
-      first (ok q) = rw (numbers-are b off (cond (layout tag flags).has_idx cells 0) q) (second (skip_fields_at b off (cond (layout tag flags).has_idx cells 0) q))
+      first (Err r) = refl
+      first (Ok q) = rw (numbers-are b off (cond (layout tag flags).has_idx cells 0) q) (second (skip_fields_at b off (cond (layout tag flags).has_idx cells 0) q))
         where
           second : (x : Res ℕ)
-              → then (then x λ o. ok (listed b off (cond (layout tag flags).has_idx cells 0) q o))
+              → then (then x λ o. Ok (listed b off (cond (layout tag flags).has_idx cells 0) q o))
               (λ es. K (layout tag flags).size cells (layout tag flags).has_crc (numbers_at b (layout tag flags).size roots (p + off)) es.next)
               ≡ then
               (then x λ first.
-              ok (record { checked = (layout tag flags).has_crc; size = (layout tag flags).size; cells = cells; roots = roots; list = p + off; first = first }))
+              Ok (record { checked = (layout tag flags).has_crc; size = (layout tag flags).size; cells = cells; roots = roots; list = p + off; first = first }))
               after_header
-          second (bad r) = refl
-          second (ok o) = refl
+          second (Err r) = refl
+          second (Ok o) = refl
 
   -- the header, then the root list and the index, are the header by place
   pub header_tie : (scratch room : ℕ) → then (header scratch room b) after_fields ≡ then (header_at b scratch room) after_header
@@ -131,7 +131,7 @@ module _ {A : Type 0} (K : ℕ → ℕ → Bool → List ℕ → ℕ → Res A) 
           then (check (leb (layout tag flags).size 4) (refusal SIZE 4)) λ _.
           then (field b 5 1) λ off.
           then (check (leb off 8) (refusal OFFSET 5)) λ _.
-          ok (record { shape = layout tag flags; off = off }))
+          Ok (record { layout = layout_of (layout tag flags); off = off }))
       flags-are b =
           rw (field_is b 0 4 (lit≤ tt))
           (then-then (field b 0 4) _ _
@@ -150,4 +150,4 @@ after_head whole b size n sum roots first =
     then (check (not whole || leb (length b) end) (refusal EXTRA end)) λ _.
     then (links 0 n cells.it) λ _.
     then (roots_ok 0 n roots) λ _.
-    ok (record { used = end; cells = cells.it; roots = roots })
+    Ok (record { used = end; cells = cells.it; roots = roots })

@@ -1,15 +1,12 @@
 // The header of a bag up to its first cell: tag, byte 4, off_bytes, counts, total, root list and index, by place.
 #![tactic(auto)]
 
-ghost use Rattle.std.specs.Prelude.{◌≡◌, cond};
-ghost use Rattle.scheme.specs.Layout.{layout};
-ghost use Rattle.header.specs.Header.{flags_at, checked_counts, counts_at, places_at, header_at};
-ghost use Rattle.header.specs.Paper.{layout_of, flags_of, flags_paper, counts_paper, paper_of};
+ghost use Rattle.std.specs.Prelude.{◌≡◌};
+ghost use Rattle.scheme.specs.Layout.{generic_tag, tag_ok, layout};
+ghost use Rattle.header.specs.Header.{layout_of, flags_at, checked_counts, counts_at, places_at, header_at};
 
-use bits::{Field, MAX_WIDTH, Octet, Skip, read_byte, read_field, skip_bytes, skip_fields};
-use scheme::{
-    CELLS, COUNTS, CUT, INDEXED, MAX_CELLS, OFFSET, ROOTROOM, Refusal, SCRATCH, SIZE, TAG,
-};
+use bits::{MAX_WIDTH, read_byte, read_field, skip_bytes, skip_fields};
+use scheme::{MAX_CELLS, Reason, Refusal};
 
 const GENERIC_TAG: u64 = 0xb5ee9c72;
 
@@ -30,7 +27,7 @@ const COUNTS_AT: usize = 6;
 const SCRATCH_PER_CELL: usize = 2;
 
 // What follows from the tag and byte 4: the bytes of a bag place, whether an index and whether a checksum is there.
-#[derive(Drop)]
+#[derive(Clone, Copy, Debug, PartialEq, Eq)]
 pub struct Layout {
     pub size: usize,
     pub indexed: bool,
@@ -38,35 +35,23 @@ pub struct Layout {
 }
 
 // The layout, and the bytes of an offset.
-#[derive(Drop)]
+#[derive(Clone, Copy, Debug, PartialEq, Eq)]
 pub struct Flags {
     pub layout: Layout,
     pub off: usize,
 }
 
-#[derive(Drop)]
-pub enum FlagsAnswer {
-    Known(Flags),
-    Refused(Refusal),
-}
-
 // How many cells and roots, and the place behind the counts.
-#[derive(Drop)]
+#[derive(Clone, Copy, Debug, PartialEq, Eq)]
 pub struct Counts {
     pub cells: usize,
     pub roots: usize,
     pub next: usize,
 }
 
-#[derive(Drop)]
-pub enum CountsAnswer {
-    Counted(Counts),
-    Refused(Refusal),
-}
-
 // A header: whether a checksum follows the cells, the bytes of a bag place, how many cells and roots, and the places of the
 // root list and of the first cell.
-#[derive(Drop)]
+#[derive(Clone, Copy, Debug, PartialEq, Eq)]
 pub struct Header {
     pub checked: bool,
     pub size: usize,
@@ -76,89 +61,54 @@ pub struct Header {
     pub first: usize,
 }
 
-#[derive(Drop)]
-pub enum HeaderAnswer {
-    Head(Header),
-    Refused(Refusal),
-}
-
-fn wide(x: u8) -> usize
-    ensures { result ≡ x }
+// TAG, INDEXED: of the three tags only the generic one is read.
+#[tactic(auto, unfolding(scheme::specs::Layout::tag_ok))]
+fn check_tag(tag: u64) -> Result<(), Refusal>
+    ensures { result ≡ tag_ok tag }
 {
-    x as usize
+    match tag {
+        GENERIC_TAG => Ok(()),
+        INDEXED_TAG | INDEXED_CRC_TAG => Err(Reason::Indexed.at(0)),
+        _ => Err(Reason::Tag.at(0)),
+    }
 }
 
 // Byte 4 of the generic tag, high bit first: has_idx, has_crc32c, has_cache_bits, two flag bits, three bits size.
-fn layout_of(tag: u64, flags: u8) -> Layout
-    ensures { layout_of result ≡ layout tag flags }
+#[tactic(auto, unfolding(scheme::specs::Layout::layout))]
+fn layout_of(flags: u8) -> Layout
+    ensures { result ≡ layout_of (layout generic_tag flags) }
 {
     Layout {
-        size: wide(flags % 8),
+        size: usize::from(flags % 8),
         indexed: flags / 128 % 2 == 1,
         checked: flags / 64 % 2 == 1,
     }
 }
 
 // Tag, byte 4, off_bytes.
-fn read_flags(bytes: &[u8]) -> FlagsAnswer
-    ensures { flags_paper result ≡ flags_at bytes.now }
+#[tactic(auto, unfolding(crate::specs::Header::flags_at, scheme::specs::Layout::layout))]
+fn read_flags(bytes: &[u8]) -> Result<Flags, Refusal>
+    ensures { result ≡ flags_at bytes.now }
 {
-    let Field::Number(tag, p) = read_field(bytes, 0, TAG_LEN) else {
-        return FlagsAnswer::Refused(Refusal {
-            number: CUT,
-            place: 0,
-        });
-    };
-    if tag == INDEXED_TAG {
-        return FlagsAnswer::Refused(Refusal {
-            number: INDEXED,
-            place: 0,
-        });
+    let (tag, p) = read_field(bytes, 0, TAG_LEN)?;
+    check_tag(tag)?;
+    let (flags, q) = read_byte(bytes, p)?;
+    let layout = layout_of(flags);
+    if layout.size > MAX_SIZE {
+        return Err(Reason::Size.at(FLAGS_AT));
     }
-    if tag == INDEXED_CRC_TAG {
-        return FlagsAnswer::Refused(Refusal {
-            number: INDEXED,
-            place: 0,
-        });
+    let (off, _) = read_byte(bytes, q)?;
+    if usize::from(off) > MAX_WIDTH {
+        return Err(Reason::Offset.at(OFF_AT));
     }
-    if tag != GENERIC_TAG {
-        return FlagsAnswer::Refused(Refusal {
-            number: TAG,
-            place: 0,
-        });
-    }
-    let Octet::Byte(flags, q) = read_byte(bytes, p) else {
-        return FlagsAnswer::Refused(Refusal {
-            number: CUT,
-            place: p,
-        });
-    };
-    let l = layout_of(tag, flags);
-    if l.size > MAX_SIZE {
-        return FlagsAnswer::Refused(Refusal {
-            number: SIZE,
-            place: FLAGS_AT,
-        });
-    }
-    let Octet::Byte(off, _) = read_byte(bytes, q) else {
-        return FlagsAnswer::Refused(Refusal {
-            number: CUT,
-            place: q,
-        });
-    };
-    if wide(off) > MAX_WIDTH {
-        return FlagsAnswer::Refused(Refusal {
-            number: OFFSET,
-            place: OFF_AT,
-        });
-    }
-    FlagsAnswer::Known(Flags {
-        layout: l,
-        off: wide(off),
+    Ok(Flags {
+        layout,
+        off: usize::from(off),
     })
 }
 
 // COUNTS, CELLS, SCRATCH, ROOTROOM. roots + absent is tested by a difference, which is exact.
+#[tactic(auto, unfolding(crate::specs::Header::checked_counts))]
 fn check_counts(
     cells: u64,
     roots: u64,
@@ -166,116 +116,63 @@ fn check_counts(
     next: usize,
     scratch: usize,
     rooms: usize,
-) -> CountsAnswer
-    ensures { counts_paper result ≡ checked_counts cells roots absent next scratch rooms }
+) -> Result<Counts, Refusal>
+    ensures { result ≡ checked_counts cells roots absent next scratch rooms }
 {
-    if cells < roots {
-        return CountsAnswer::Refused(Refusal {
-            number: COUNTS,
-            place: COUNTS_AT,
-        });
+    if cells < roots || cells - roots < absent {
+        return Err(Reason::Counts.at(COUNTS_AT));
     }
-    if cells - roots < absent {
-        return CountsAnswer::Refused(Refusal {
-            number: COUNTS,
-            place: COUNTS_AT,
-        });
+    let cells = cells as usize;
+    if cells > MAX_CELLS {
+        return Err(Reason::Cells.at(COUNTS_AT));
     }
-    if cells as usize > MAX_CELLS {
-        return CountsAnswer::Refused(Refusal {
-            number: CELLS,
-            place: COUNTS_AT,
-        });
-    }
-    let need = SCRATCH_PER_CELL * cells as usize;
+    let need = SCRATCH_PER_CELL * cells;
     if scratch < need {
-        return CountsAnswer::Refused(Refusal {
-            number: SCRATCH,
-            place: need,
-        });
+        return Err(Reason::Scratch.at(need));
     }
-    if rooms < roots as usize {
-        return CountsAnswer::Refused(Refusal {
-            number: ROOTROOM,
-            place: roots as usize,
-        });
+    let roots = roots as usize;
+    if rooms < roots {
+        return Err(Reason::RootRoom.at(roots));
     }
-    CountsAnswer::Counted(Counts {
-        cells: cells as usize,
-        roots: roots as usize,
-        next,
-    })
+    Ok(Counts { cells, roots, next })
 }
 
 // Cells, roots, absent.
-fn read_counts(bytes: &[u8], size: usize, scratch: usize, rooms: usize) -> CountsAnswer
-    ensures { counts_paper result ≡ counts_at bytes.now size scratch rooms }
+#[tactic(auto, unfolding(crate::specs::Header::counts_at))]
+fn read_counts(bytes: &[u8], size: usize, scratch: usize, rooms: usize) -> Result<Counts, Refusal>
+    ensures { result ≡ counts_at bytes.now size scratch rooms }
 {
-    let Field::Number(cells, p) = read_field(bytes, COUNTS_AT, size) else {
-        return CountsAnswer::Refused(Refusal {
-            number: CUT,
-            place: COUNTS_AT,
-        });
-    };
-    let Field::Number(roots, q) = read_field(bytes, p, size) else {
-        return CountsAnswer::Refused(Refusal {
-            number: CUT,
-            place: p,
-        });
-    };
-    let Field::Number(absent, next) = read_field(bytes, q, size) else {
-        return CountsAnswer::Refused(Refusal {
-            number: CUT,
-            place: q,
-        });
-    };
+    let (cells, p) = read_field(bytes, COUNTS_AT, size)?;
+    let (roots, q) = read_field(bytes, p, size)?;
+    let (absent, next) = read_field(bytes, q, size)?;
     check_counts(cells, roots, absent, next, scratch, rooms)
 }
 
-// How many entries the index has.
-fn entries(indexed: bool, cells: usize) -> usize
-    ensures { result ≡ cond indexed cells 0 }
-{
-    if indexed { cells } else { 0 }
-}
-
 // Total, root list, index: their values are not looked at here.
-fn read_places(bytes: &[u8], f: Flags, c: Counts) -> HeaderAnswer
-    ensures { paper_of result ≡ places_at bytes.now (flags_of f) c }
+#[tactic(auto, unfolding(crate::specs::Header::places_at))]
+fn read_places(bytes: &[u8], f: Flags, c: Counts) -> Result<Header, Refusal>
+    ensures { result ≡ places_at bytes.now f c }
 {
-    match skip_bytes(bytes, c.next, f.off) {
-        Skip::Refused(r) => HeaderAnswer::Refused(r),
-        Skip::Past(list) => match skip_fields(bytes, list, f.layout.size, c.roots) {
-            Skip::Refused(r) => HeaderAnswer::Refused(r),
-            Skip::Past(index) => match skip_fields(
-                bytes,
-                index,
-                f.off,
-                entries(f.layout.indexed, c.cells),
-            ) {
-                Skip::Refused(r) => HeaderAnswer::Refused(r),
-                Skip::Past(first) => HeaderAnswer::Head(Header {
-                    checked: f.layout.checked,
-                    size: f.layout.size,
-                    cells: c.cells,
-                    roots: c.roots,
-                    list,
-                    first,
-                }),
-            },
-        },
-    }
+    let list = skip_bytes(bytes, c.next, f.off)?;
+    let index = skip_fields(bytes, list, f.layout.size, c.roots)?;
+    let entries = if f.layout.indexed { c.cells } else { 0 };
+    let first = skip_fields(bytes, index, f.off, entries)?;
+    Ok(Header {
+        checked: f.layout.checked,
+        size: f.layout.size,
+        cells: c.cells,
+        roots: c.roots,
+        list,
+        first,
+    })
 }
 
 // The header of a bag, for which `scratch` entries and `rooms` root places are lent.
-pub fn read_header(bytes: &[u8], scratch: usize, rooms: usize) -> HeaderAnswer
-    ensures { paper_of result ≡ header_at bytes.now scratch rooms }
+#[tactic(auto, unfolding(crate::specs::Header::header_at))]
+pub fn read_header(bytes: &[u8], scratch: usize, rooms: usize) -> Result<Header, Refusal>
+    ensures { result ≡ header_at bytes.now scratch rooms }
 {
-    match read_flags(bytes) {
-        FlagsAnswer::Refused(r) => HeaderAnswer::Refused(r),
-        FlagsAnswer::Known(f) => match read_counts(bytes, f.layout.size, scratch, rooms) {
-            CountsAnswer::Refused(r) => HeaderAnswer::Refused(r),
-            CountsAnswer::Counted(c) => read_places(bytes, f, c),
-        },
-    }
+    let f = read_flags(bytes)?;
+    let c = read_counts(bytes, f.layout.size, scratch, rooms)?;
+    read_places(bytes, f, c)
 }

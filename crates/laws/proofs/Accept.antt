@@ -1,6 +1,6 @@
 -- What an accepted read says of its bytes: the theorems over specs/Accept.
 -- Assumes nothing.
-use Rattle.std.specs.Prelude.{◌≡◌, refl, ℕ, zero, suc, ◌-◌, Bool, not, ◌||◌, length, leb}
+use Rattle.std.specs.Prelude.{◌≡◌, refl, ℕ, zero, suc, ◌-◌, Bool, not, ◌||◌, length, leb, Ok}
 use Rattle.std.proofs.Common.{ap, arith, leb-true}
 use mathlib.Core.List.Memᴰ.{head as here}
 use mathlib.Core.List.Memᴰ.{tail as there}
@@ -8,11 +8,11 @@ use mathlib.Core.List.{List, [], ◌∷◌, Memᴰ as Mem}
 use Rattle.scheme.specs.Refusals.{EXTRA, FULL}
 use Rattle.scheme.specs.Cells.{Cell}
 use Rattle.scheme.specs.Bag.{load, header, raw_cell, raw_cells, links, roots_ok, checksum, read, Got, Counts, Past, root_list, index, bag, Bag}
-use Rattle.scheme.specs.Res.{ok, check, refusal}
+use Rattle.scheme.specs.Res.{check, refusal}
 use Rattle.laws.specs.CellRound.{Fit}
 use Rattle.laws.specs.Accept.{then_use, check_inv, Small, cell-fit, links-inv, roots-inv, Whole, Accepted}
 
-pub cells_fit : (b : List ℕ) (size n p : ℕ) (c : Past (List Cell)) → raw_cells b size n p ≡ ok c → Small b → (length c.it ≡ n) × ((d : Cell) → Mem d c.it → Fit d)
+pub cells_fit : (b : List ℕ) (size n p : ℕ) (c : Past (List Cell)) → raw_cells b size n p ≡ Ok c → Small b → (length c.it ≡ n) × ((d : Cell) → Mem d c.it → Fit d)
 cells_fit b size zero p c e S = let q : [] ≡ c.it = cc in rw (← q) (refl, λ d m. elim m [ ])
 cells_fit b size (suc n) p c e S =
     then_use (raw_cell b size p) _ _ e λ f x₁ e₁.
@@ -26,7 +26,7 @@ cells_fit b size (suc n) p c e S =
     go x xs F G d (here e) = rw e F
     go x xs F G d (there m) = G d m
 
-pub bag-inv : (whole : Bool) (scratch room : ℕ) (b : List ℕ) (g : Bag) → Small b → bag whole scratch room b ≡ ok g → Whole g
+pub bag-inv : (whole : Bool) (scratch room : ℕ) (b : List ℕ) (g : Bag) → Small b → bag whole scratch room b ≡ Ok g → Whole g
 unfolding bag
 bag-inv whole scratch room b g S e =
     then_use (header scratch room b) _ _ e λ h x₁ e₁.
@@ -42,7 +42,7 @@ bag-inv whole scratch room b g S e =
     let q₂ : roots.it ≡ g.roots = cc in
     rw (← q₁, ← q₂) (record { fit = C.1; linked = links-inv 0 h.cells c.it u₇ x₇ (omega (arith, C.0)); inside = λ r m. rw C.0 (roots-inv 0 h.cells roots.it u₈ x₈ r m) })
 
-pub read-inv : (whole : Bool) (scratch room cap : ℕ) (s : List Cell) (b : List ℕ) (g : Got) → Small b → read whole scratch room cap s b ≡ ok g → Accepted cap s g
+pub read-inv : (whole : Bool) (scratch room cap : ℕ) (s : List Cell) (b : List ℕ) (g : Got) → Small b → read whole scratch room cap s b ≡ Ok g → Accepted cap s g
 unfolding read
 read-inv whole scratch room cap s b g S e =
     then_use (bag whole scratch room b) _ _ e λ a x₁ e₁.

@@ -1,20 +1,20 @@
 -- What an add that is not refused says: the theorem over specs/Add.
 -- Assumes nothing.
-use Rattle.std.specs.Prelude.{◌≡◌, ℕ, suc, ◌<◌, length, take, leb, ltb}
+use Rattle.std.specs.Prelude.{◌≡◌, ℕ, suc, ◌<◌, length, take, leb, ltb, Ok}
 use Rattle.std.proofs.Common.{leb-true, ltb-true}
 use mathlib.Core.List.Memᴰ.{head as here}
 use mathlib.Core.List.Memᴰ.{tail as there}
 use mathlib.Core.List.{List, [], ◌∷◌, Memᴰ as Mem}
 use Rattle.scheme.specs.Refusals.{REFS, FULL, NOCELL, BITS}
 use Rattle.scheme.specs.Cells.{Cell, insert}
-use Rattle.scheme.specs.Res.{refusal, ok, check}
+use Rattle.scheme.specs.Res.{refusal, check}
 use Rattle.scheme.specs.Builder.{Builder, cell_in}
 use Rattle.scheme.specs.Add.{refs_held, Added, add}
 use Rattle.laws.specs.Unique.{Below}
 use Rattle.laws.specs.Accept.{then_use, check_inv}
 use Rattle.laws.specs.Add.{Typed, fit-in, Taken}
 
-held-inv : (k n : ℕ) (rs : List ℕ) (u : Unit {0}) → refs_held k n rs ≡ ok u → Below n rs
+held-inv : (k n : ℕ) (rs : List ℕ) (u : Unit {0}) → refs_held k n rs ≡ Ok u → Below n rs
 held-inv k n [] u e r m = elim m [ ]
 held-inv k n (y ∷ ys) u e r m =
     then_use (check (ltb y n) (refusal NOCELL k)) _ _ e λ u₁ x₁ e₁.
@@ -24,7 +24,7 @@ held-inv k n (y ∷ ys) u e r m =
     go h ih (here q) = rw q h
     go h ih (there m) = ih r m
 
-pub add-inv : (cap : ℕ) (s : List Cell) (b : Builder) (a : Added) → Typed b → add cap s b ≡ ok a → Taken cap s a
+pub add-inv : (cap : ℕ) (s : List Cell) (b : Builder) (a : Added) → Typed b → add cap s b ≡ Ok a → Taken cap s a
 unfolding add
 add-inv cap s b a T e =
     then_use (check (leb b.len 1023) (refusal BITS 0)) _ _ e λ u₁ x₁ e₁.

@@ -1,6 +1,6 @@
 -- What every store keeps to, whatever calls follow one another: the theorems over specs/Kept.
 -- Assumes nothing.
-use Rattle.std.specs.Prelude.{◌≡◌, refl, ◌⊎◌, ℕ, suc, ◌-◌, ◌<◌, length, get_or}
+use Rattle.std.specs.Prelude.{◌≡◌, refl, ◌⊎◌, ℕ, suc, ◌-◌, ◌<◌, length, get_or, Ok, Err}
 use Rattle.std.proofs.Common.{inl, inr}
 use mathlib.Core.List.Memᴰ.{head as here}
 use mathlib.Core.List.Memᴰ.{tail as there}
@@ -11,7 +11,7 @@ use Rattle.laws.specs.Unique.{find_cases, insert-old, insert-new, place-cases, a
 use Rattle.laws.proofs.Unique.{sound-insert}
 use Rattle.scheme.specs.Bag.{link, load, read, Got}
 use Rattle.laws.proofs.Meaning.{sound-load}
-use Rattle.scheme.specs.Res.{Res, bad, ok}
+use Rattle.scheme.specs.Res.{Res}
 use Rattle.laws.specs.CellRound.{Fit}
 use Rattle.laws.specs.Accept.{Accepted}
 use Rattle.laws.proofs.Accept.{read-inv}
@@ -49,10 +49,10 @@ module _ (cap : ℕ) where
   kept-after s (adds b) K t = go (add cap s b) refl
     where
       go : (r : Res Added) → add cap s b ≡ r → Kept cap (added_store s r)
-      go (bad r) e = K
-      go (ok a) e = kept-add s a K (add-inv cap s b a t e)
+      go (Err r) e = K
+      go (Ok a) e = kept-add s a K (add-inv cap s b a t e)
   kept-after s (reads whole scratch room b) K t = go (read whole scratch room cap s b) refl
     where
       go : (r : Res Got) → read whole scratch room cap s b ≡ r → Kept cap (got_store s r)
-      go (bad r) e = K
-      go (ok g) e = kept_read s g K (read-inv whole scratch room cap s b g t e)
+      go (Err r) e = K
+      go (Ok g) e = kept_read s g K (read-inv whole scratch room cap s b g t e)

@@ -1,6 +1,6 @@
 -- What is written of a held cell reads back as that cell: the theorems over specs/WrittenBack.
 -- Assumes nothing.
-use Rattle.std.specs.Prelude.{◌≡◌, refl, ℕ, ◌-◌, ◌*◌, ◌≤◌, ◌<◌, Bool, length, get_or}
+use Rattle.std.specs.Prelude.{◌≡◌, refl, ℕ, ◌-◌, ◌*◌, ◌≤◌, ◌<◌, Bool, length, get_or, Ok}
 use Rattle.std.proofs.Common.{◌∙◌, arith}
 use mathlib.Core.List.{List, [], ◌∷◌, map, Memᴰ as Mem}
 use Rattle.std.proofs.lemmas.List.{length-map}
@@ -14,7 +14,6 @@ use Rattle.scheme.specs.Write.{bag_cell, bag_cells, write, leveled}
 use Rattle.laws.specs.Round.{plain_cells}
 use Rattle.laws.proofs.Round.{round_trip}
 use Rattle.scheme.specs.Bag.{load, read}
-use Rattle.scheme.specs.Res.{ok}
 use Rattle.laws.specs.CellRound.{Fit}
 use Rattle.laws.specs.BagRound.{plain, Fits, bag-back}
 use Rattle.laws.specs.WrittenBack.{bag-linked, fit-bag, crc_small}
@@ -49,7 +48,7 @@ bag-fits scratch room cap s₀ s S F root h hmax hscr hroom free =
 pub written-reads-back : (whole : Bool) (scratch room cap : ℕ) (idx sum : Bool) (s : List Cell) → Sound s → ((x : ℕ) → x < length s → Fit (at s x))
     → (root : ℕ) → root < length s → length s ≤ cap → cap ≤ 4096 → 2 * length (order_of s root) ≤ scratch → 1 ≤ room
     → read whole scratch room cap s (write idx sum s root)
-    ≡ ok (record { counts = record { used = length (write idx sum s root); cells = length (order_of s root); roots = 1; added = 0 }; names = root ∷ []; store = s })
+    ≡ Ok (record { counts = record { used = length (write idx sum s root); cells = length (order_of s root); roots = 1; added = 0 }; names = root ∷ []; store = s })
 unfolding write
 written-reads-back whole scratch room cap idx sum s S F root h hcap hmax hscr hroom =
     let out = order_of s root in

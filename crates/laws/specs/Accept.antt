@@ -1,6 +1,6 @@
 -- What an accepted read says of its bytes, field by field. That its cells are whole, fit to be stored, and linked is in proofs/Accept.
 -- Assumes nothing.
-use Rattle.std.specs.Prelude.{◌≡◌, refl, ◌≢◌, ℕ, zero, suc, ◌+◌, ◌-◌, ◌*◌, ◌/◌, ◌%◌, ◌^◌, ◌≤◌, ◌<◌, Bool, true, false, cond, not, ◌||◌, ◌&&◌, length, take, drop, get_or, eqb, leb, ltb}
+use Rattle.std.specs.Prelude.{◌≡◌, refl, ◌≢◌, ℕ, zero, suc, ◌+◌, ◌-◌, ◌*◌, ◌/◌, ◌%◌, ◌^◌, ◌≤◌, ◌<◌, Bool, true, false, cond, not, ◌||◌, ◌&&◌, length, take, drop, get_or, eqb, leb, ltb, Ok, Err}
 use Rattle.std.proofs.Common.{ap, not-suc-le-zero, arith, length-drop, leb-true, ltb-true, eqb-true, length-take-le}
 use mathlib.Core.List.Memᴰ.{head as here}
 use mathlib.Core.List.Memᴰ.{tail as there}
@@ -13,20 +13,20 @@ use Rattle.scheme.specs.Bag.{load, hashes, Bits, bits, raw_cell, refs_ok, links,
 use Rattle.laws.specs.Meaning.{Linked}
 use Rattle.scheme.specs.Bytes.{unbe, chunk, field, fields}
 use Rattle.scheme.specs.Bits.{zeros, last_of, unmark}
-use Rattle.scheme.specs.Res.{Res, bad, ok, then, check, refusal}
+use Rattle.scheme.specs.Res.{Res, then, check, refusal}
 use Rattle.scheme.specs.declared.Refusal.{Refusal}
 use Rattle.laws.specs.CellRound.{Fit, all_below, all_below-true, last_mem}
 
 -- a step that went well, taken apart: its first part went well with some a, and the rest at a
-pub then_use : {A B C : Type 0} (x : Res A) (f : A → Res B) (b : B) → then x f ≡ ok b → ((a : A) → x ≡ ok a → f a ≡ ok b → C) → C
-then_use (bad r) f b e k = let z : ◌≡◌ {A = ℕ} 0 1 = cc in absurd (omega arith)
-then_use (ok a) f b e k = k a refl e
+pub then_use : {A B C : Type 0} (x : Res A) (f : A → Res B) (b : B) → then x f ≡ Ok b → ((a : A) → x ≡ Ok a → f a ≡ Ok b → C) → C
+then_use (Err r) f b e k = let z : ◌≡◌ {A = ℕ} 0 1 = cc in absurd (omega arith)
+then_use (Ok a) f b e k = k a refl e
 
-pub check_inv : (t : Bool) (r : Refusal) (u : Unit {0}) → check t r ≡ ok u → t ≡ true
+pub check_inv : (t : Bool) (r : Refusal) (u : Unit {0}) → check t r ≡ Ok u → t ≡ true
 check_inv true r u e = refl
 check_inv false r u e = cc
 
-pub fields-length : (b : List ℕ) (k n p : ℕ) (xs : List ℕ) → fields b k n p ≡ ok xs → length xs ≡ n
+pub fields-length : (b : List ℕ) (k n p : ℕ) (xs : List ℕ) → fields b k n p ≡ Ok xs → length xs ≡ n
 fields-length b k zero p xs e = let q : xs ≡ [] = cc in rw q
 fields-length b k (suc n) p xs e =
     then_use (field b p k) _ _ e λ y ey e₁.
@@ -47,7 +47,7 @@ mem-drop zero l x m = m
 mem-drop (suc k) [] x m = m
 mem-drop (suc k) (y ∷ ys) x m = there (mem-drop k ys x m)
 
-pub chunk-inv : (b : List ℕ) (p k : ℕ) (xs : List ℕ) → chunk b p k ≡ ok xs → Small b → (length xs ≡ k) × Small xs
+pub chunk-inv : (b : List ℕ) (p k : ℕ) (xs : List ℕ) → chunk b p k ≡ Ok xs → Small b → (length xs ≡ k) × Small xs
 unfolding chunk
 chunk-inv b p k xs e S =
     then_use (check (leb (p + k) (length b)) (refusal CUT p)) _ _ e λ u c e₁.
@@ -56,14 +56,14 @@ chunk-inv b p k xs e S =
     rw q (length-take-le k (drop p b) (omega (arith, length-drop p b)), λ x m. S x (mem-drop p b x (mem-take k (drop p b) x m)))
 
 -- a number of one byte
-pub byte-inv : (b : List ℕ) (p x : ℕ) → field b p 1 ≡ ok x → Small b → x < 256
+pub byte-inv : (b : List ℕ) (p x : ℕ) → field b p 1 ≡ Ok x → Small b → x < 256
 unfolding field
 byte-inv b p x e S =
     then_use (chunk b p 1) _ _ e λ xs c e₁.
     let r = chunk-inv b p 1 xs c S in
     go xs r.0 r.1 e₁
   where
-    go : (xs : List ℕ) → length xs ≡ 1 → Small xs → ◌≡◌ {A = Res ℕ} (ok (unbe 0 xs)) (ok x) → x < 256
+    go : (xs : List ℕ) → length xs ≡ 1 → Small xs → ◌≡◌ {A = Res ℕ} (Ok (unbe 0 xs)) (Ok x) → x < 256
     go [] n T e = absurd (omega arith)
     go (y ∷ []) n T e = let q : 0 * 256 + y ≡ x = cc in omega (arith, T y (here refl))
     go (y ∷ z ∷ zs) n T e = absurd (omega arith)
@@ -125,7 +125,7 @@ last-bits k t h g = let q : (8 * k - 1 - t) / 8 ≡ k - 1 = omega arith in omega
 last-bytes : (k t : ℕ) → 0 < k → t < 7 → k ≡ (8 * k - 1 - t + 7) / 8
 last-bytes k t h g = omega arith
 
-pub bits_fit_lem : (d2 q : ℕ) (xs : List ℕ) (w : Bits) → d2 < 256 → length xs ≡ (d2 + 1) / 2 → Small xs → bits (eqb (d2 % 2) 1) q xs ≡ ok w → FitBits w
+pub bits_fit_lem : (d2 q : ℕ) (xs : List ℕ) (w : Bits) → d2 < 256 → length xs ≡ (d2 + 1) / 2 → Small xs → bits (eqb (d2 % 2) 1) q xs ≡ Ok w → FitBits w
 unfolding bits
 bits_fit_lem d2 q xs w h n S e = go (eqb (d2 % 2) 1) refl e
   where
@@ -147,7 +147,7 @@ bits_fit_lem d2 q xs w h n S e = go (eqb (d2 % 2) 1) refl e
           clean = λ c. rw (unmark-last t xs eb some, eight, et) f.1;
         }
 
-    go : (odd : Bool) → eqb (d2 % 2) 1 ≡ odd → bits odd q xs ≡ ok w → FitBits w
+    go : (odd : Bool) → eqb (d2 % 2) 1 ≡ odd → bits odd q xs ≡ Ok w → FitBits w
     go false o e =
         let even : d2 % 2 ≢ 1 = eqb-false (d2 % 2) 1 o in
         let r : w ≡ record { len = 8 * length xs; bytes = xs } = cc in
@@ -157,7 +157,7 @@ bits_fit_lem d2 q xs w h n S e = go (eqb (d2 % 2) 1) refl e
         let r : w ≡ record { len = 8 * length xs - 1 - zeros 8 (last_of xs); bytes = unmark (zeros 8 (last_of xs)) xs } = cc in
         rw r (marked (zeros 8 (last_of xs)) (not-true (eqb (last_of xs) 0) (check_inv (not (eqb (last_of xs) 0)) (refusal PADDING q) u c)) refl (eqb (zeros 8 (last_of xs)) 7) refl)
 
-pub cell-fit : (b : List ℕ) (size p : ℕ) (c : Past Cell) → raw_cell b size p ≡ ok c → Small b → Fit c.it
+pub cell-fit : (b : List ℕ) (size p : ℕ) (c : Past Cell) → raw_cell b size p ≡ Ok c → Small b → Fit c.it
 unfolding raw_cell
 cell-fit b size p c e S =
     then_use (field b p 1) _ _ e λ d1 x₁ e₁.
@@ -174,7 +174,7 @@ cell-fit b size p c e S =
     let q : record { exotic = d1 / 8 % 2; len = w.len; bytes = w.bytes; refs = rs } ≡ c.it = cc in
     rw (← q) (record { flag = omega arith; few = W.few; many = W.many; small = W.small; clean = W.clean; arity = omega arith })
 
-refs-inv : (i n : ℕ) (rs : List ℕ) (u : Unit {0}) → refs_ok i n rs ≡ ok u → (r : ℕ) → Mem r rs → (i < r) × (r < n)
+refs-inv : (i n : ℕ) (rs : List ℕ) (u : Unit {0}) → refs_ok i n rs ≡ Ok u → (r : ℕ) → Mem r rs → (i < r) × (r < n)
 refs-inv i n [] u e r m = elim m [ ]
 refs-inv i n (y ∷ ys) u e r m =
     then_use (check (ltb i y) (refusal BACK i)) _ _ e λ u₁ x₁ e₁.
@@ -185,13 +185,13 @@ refs-inv i n (y ∷ ys) u e r m =
     go h ih (here q) = rw q h
     go h ih (there m) = ih r m
 
-pub links-inv : (i n : ℕ) (cs : List Cell) (u : Unit {0}) → links i n cs ≡ ok u → n ≡ i + length cs → Linked i cs
+pub links-inv : (i n : ℕ) (cs : List Cell) (u : Unit {0}) → links i n cs ≡ Ok u → n ≡ i + length cs → Linked i cs
 links-inv i n [] u e q = tt
 links-inv i n (c ∷ cs) u e q =
     then_use (links (suc i) n cs) _ _ e λ u₁ x₁ e₁.
     (λ r m. let h = refs-inv i n c.refs u e₁ r m in omega arith, links-inv (suc i) n cs u₁ x₁ (omega arith))
 
-pub roots-inv : (k n : ℕ) (rs : List ℕ) (u : Unit {0}) → roots_ok k n rs ≡ ok u → (r : ℕ) → Mem r rs → r < n
+pub roots-inv : (k n : ℕ) (rs : List ℕ) (u : Unit {0}) → roots_ok k n rs ≡ Ok u → (r : ℕ) → Mem r rs → r < n
 roots-inv k n [] u e r m = elim m [ ]
 roots-inv k n (y ∷ ys) u e r m =
     then_use (check (ltb y n) (refusal ROOT k)) _ _ e λ u₁ x₁ e₁.

@@ -1,6 +1,6 @@
 -- What adding leaves: the cell that a builder makes is fit to be stored, adding keeps a store sound, and it appends the cell or nothing. Assumes nothing.
 use Prim.Native.Nat.{ℕ, zero, suc, ◌*◌, ◌/◌, ◌%◌, ◌-◌, ◌^◌, ◌<◌, ◌≤◌}
-use Rattle.std.specs.Prelude.{◌≡◌, true, get_or, set, leb, ltb}
+use Rattle.std.specs.Prelude.{◌≡◌, true, get_or, set, leb, ltb, Ok, Err}
 use Rattle.std.proofs.Math.Path.{refl, sym, ap, subst}
 use Rattle.std.proofs.Common.{◌∙◌, not-suc-le-zero, le_of_suc-le-suc, length-take, length-set, take-suc, get_or-take, get_or-set_same, length-take-le}
 use mathlib.Core.List.{List, [], ◌∷◌, ◌++◌}
@@ -10,7 +10,7 @@ use Rattle.std.proofs.Math.ListN.{length, take}
 use Rattle.std.proofs.Math.Seq.{take-set-le, take-suc-set}
 use borrow.Author.Tests.{leb-true, ltb-true}
 use Rattle.scheme.specs.Refusals.{REFS, FULL, NOCELL, BITS}
-use Rattle.scheme.specs.Res.{Res, bad, ok, check, refusal}
+use Rattle.scheme.specs.Res.{Res, check, refusal}
 use Rattle.scheme.specs.Bits.{bytes_for, mask, cropped}
 use Rattle.scheme.specs.Cells.{Cell, insert}
 use Rattle.scheme.specs.Builder.{Builder, cell_in}
@@ -99,7 +99,7 @@ wf-in n b long few refs below =
     }
 
 -- references that were tested are below
-refs-below : (k n : ℕ) (rs : List ℕ) (u : Unit {0}) → refs_held k n rs ≡ ok u → (j : ℕ) → j < length rs → get_or rs j 0 < n
+refs-below : (k n : ℕ) (rs : List ℕ) (u : Unit {0}) → refs_held k n rs ≡ Ok u → (j : ℕ) → j < length rs → get_or rs j 0 < n
 refs-below k n [] u e j h = absurd (not-suc-le-zero h)
 refs-below k n (y ∷ ys) u e j h =
     then_use (check (ltb y n) (refusal NOCELL k)) _ _ e λ u₁ x₁ e₁.
@@ -135,7 +135,7 @@ module _ (n : ℕ) (t d : List ℕ) (b : Builder) (long : length b.bytes ≡ 128
   abbrev s : List Cell
   s = cells_of n t d
 
-  added-holds : (a : Added) → add (capacity t) (cells_of n t d) b ≡ ok a → Holds a.store (add_out n t d (ok a))
+  added-holds : (a : Added) → add (capacity t) (cells_of n t d) b ≡ Ok a → Holds a.store (add_out n t d (Ok a))
   unfolding add
   added-holds a q =
       then_use (check (leb b.len 1023) (refusal BITS 0)) _ _ q λ u₁ x₁ e₁.
@@ -147,7 +147,7 @@ module _ (n : ℕ) (t d : List ℕ) (b : Builder) (long : length b.bytes ≡ 128
       let fits = leb-true (length (insert s (cell_in b))) (capacity t) (check_inv (leb (length (insert s (cell_in b))) (capacity t)) (refusal FULL 0) u₄ x₄) in
       let w = wf-in n b long few refs (λ k h. rw (← cells-length n t d) (refs-below 0 (length s) (take b.count b.refs) u₃ x₃ k h)) in
       let st : insert s (cell_in b) ≡ a.store = cc in
-      subst (λ (x : List Cell). Holds x (add_out n t d (ok (record { number = a.number; store = x })))) st
+      subst (λ (x : List Cell). Holds x (add_out n t d (Ok (record { number = a.number; store = x })))) st
       (record { is-sound = insert-sound n t d (cell_in b) e w fits; cells = insert-cells n t d (cell_in b) e w fits })
 
   -- adding keeps a store sound, and its cells are those of the definition on lists
@@ -156,5 +156,5 @@ module _ (n : ℕ) (t d : List ℕ) (b : Builder) (long : length b.bytes ≡ 128
   adding-holds = rw e (go (add (capacity t) (cells_of n t d) b) refl)
     where
       go : (x : Res Added) → add (capacity t) (cells_of n t d) b ≡ x → Holds (added_store (cells_of n t d) x) (add_out n t d x)
-      go (bad r) q = record { is-sound = e; cells = refl }
-      go (ok a) q = added-holds a q
+      go (Err r) q = record { is-sound = e; cells = refl }
+      go (Ok a) q = added-holds a q

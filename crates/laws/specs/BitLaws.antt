@@ -1,6 +1,6 @@
 -- Bits in bytes: bits packed and taken back, one bit read and set, bits put in behind others; what the steps of a builder keep; cropped
 -- bytes, and when two cells are equal. Assumes nothing.
-use Rattle.std.specs.Prelude.{◌≡◌, refl, ◌↔◌, Bool, true, false, ◌&&◌, not, List, [], ◌∷◌, ◌++◌, eqb, leb, ltb, get_or, take, drop, set, replicate}
+use Rattle.std.specs.Prelude.{◌≡◌, refl, ◌↔◌, Bool, true, false, ◌&&◌, not, List, [], ◌∷◌, ◌++◌, eqb, leb, ltb, get_or, take, drop, set, replicate, Ok}
 use Rattle.std.proofs.Common.{sym, ap, ap₂, ◌∙◌, append_assoc, append-nil, pow-suc, zero-add, suc-add, mod-lt, zero-lt-suc, not-suc-le-zero, le_of_suc-le-suc, pow_pos, lit<, lit≤, take-append-drop, length-set, get_or-append-add, get_or-drop, length-take-le, take_at, drop_at, drop-drop, drop-set-lt, drop-cons, take-add, take_all, add-one, eqb-true, leb-true, ltb-true}
 use Prim.Native.Nat.{ℕ, zero, suc, ◌+◌, ◌-◌, ◌*◌, ◌/◌, ◌%◌, ◌^◌, ◌<◌, ◌≤◌}
 use Rattle.std.proofs.Math.Nat.{sub-zero, zero-sub, suc-sub-suc, mul-mod_left}
@@ -15,7 +15,7 @@ use Rattle.scheme.specs.Bits.{bit_of, bytes_for, low_bits, bits_of, first_bits, 
 use Rattle.scheme.specs.Cells.{Cell, eqbs}
 use Rattle.scheme.specs.Refusals.{CUT, BITS, REFS}
 use Rattle.scheme.specs.Limits.{max_bits, max_refs}
-use Rattle.scheme.specs.Res.{Res, ok, then, check, refusal}
+use Rattle.scheme.specs.Res.{Res, then, check, refusal}
 use Rattle.scheme.specs.declared.Refusal.{Refusal}
 use Rattle.scheme.specs.Builder.{Builder, new_builder, put_bits, bits_fit, with_bits, cell_in, appended, repeated, referred}
 use Rattle.laws.specs.Puts.{puts, puts_one, puts-append, puts-parts}
@@ -271,17 +271,17 @@ pub record Appends (b : Builder) (n : ℕ) (xs : List ℕ) (c : Builder) : Type 
   pub as_many : length xs ≡ n
   pub is : with_bits b n xs ≡ c
 
-check_use : {B C : Type 0} (t : Bool) (r : Refusal) (f : Unit {0} → Res B) (c : B) → then (check t r) f ≡ ok c → (t ≡ true → f tt ≡ ok c → C) → C
+check_use : {B C : Type 0} (t : Bool) (r : Refusal) (f : Unit {0} → Res B) (c : B) → then (check t r) f ≡ Ok c → (t ≡ true → f tt ≡ Ok c → C) → C
 check_use t r f c e k = then_use (check t r) f c e λ a p q. k (check_inv t r a p) q
 
-ok_inj : {A : Type 0} (a b : A) → ◌≡◌ {A = Res A} (ok a) (ok b) → a ≡ b
+ok_inj : {A : Type 0} (a b : A) → ◌≡◌ {A = Res A} (Ok a) (Ok b) → a ≡ b
 ok_inj a b e = cc
 
-pub appended-is : (b : Builder) (n : ℕ) (from : List ℕ) (c : Builder) → appended b n from ≡ ok c → Appends b n (first_bits n from) c
+pub appended-is : (b : Builder) (n : ℕ) (from : List ℕ) (c : Builder) → appended b n from ≡ Ok c → Appends b n (first_bits n from) c
 unfolding appended
 appended-is b n from c e =
-    check_use (leb n (8 * length from)) (refusal CUT 0) (λ _. then (bits_fit b n) λ _. ok (with_bits b n (first_bits n from))) c e λ t e₁.
-    check_use (leb (b.len + n) max_bits) (refusal BITS 0) (λ _. ok (with_bits b n (first_bits n from))) c e₁ λ u e₂.
+    check_use (leb n (8 * length from)) (refusal CUT 0) (λ _. then (bits_fit b n) λ _. Ok (with_bits b n (first_bits n from))) c e λ t e₁.
+    check_use (leb (b.len + n) max_bits) (refusal BITS 0) (λ _. Ok (with_bits b n (first_bits n from))) c e₁ λ u e₂.
     record {
       fits = leb-true (b.len + n) 1023 u;
       bits = bits-take n (bits_of from) (bits-are-bits from);
@@ -289,10 +289,10 @@ appended-is b n from c e =
       is = ok_inj (with_bits b n (first_bits n from)) c e₂;
     }
 
-pub repeated-is : (b : Builder) (n : ℕ) (bit : Bool) (c : Builder) → repeated b n bit ≡ ok c → Appends b n (replicate n (bit_of bit)) c
+pub repeated-is : (b : Builder) (n : ℕ) (bit : Bool) (c : Builder) → repeated b n bit ≡ Ok c → Appends b n (replicate n (bit_of bit)) c
 unfolding repeated
 repeated-is b n bit c e =
-    check_use (leb (b.len + n) max_bits) (refusal BITS 0) (λ _. ok (with_bits b n (replicate n (bit_of bit)))) c e λ u e₂.
+    check_use (leb (b.len + n) max_bits) (refusal BITS 0) (λ _. Ok (with_bits b n (replicate n (bit_of bit)))) c e λ u e₂.
     record {
       fits = leb-true (b.len + n) 1023 u;
       bits = bits-replicate n (bit_of bit) (bit_small bit);
@@ -309,11 +309,11 @@ bits_followed b n xs c w a =
     ap (λ (d : Builder). first_bits d.len d.bytes) (sym a.is)
     ∙ ap (λ (k : ℕ). first_bits k (put_bits b.bytes b.len xs)) e ∙ put_first b.bytes b.len xs h a.bits
 
-pub appended-bits : (b : Builder) (n : ℕ) (from : List ℕ) (c : Builder) → length b.bytes ≡ 128 → appended b n from ≡ ok c
+pub appended-bits : (b : Builder) (n : ℕ) (from : List ℕ) (c : Builder) → length b.bytes ≡ 128 → appended b n from ≡ Ok c
     → first_bits c.len c.bytes ≡ first_bits b.len b.bytes ++ first_bits n from
 appended-bits b n from c w e = bits_followed b n (first_bits n from) c w (appended-is b n from c e)
 
-pub repeated-bits : (b : Builder) (n : ℕ) (bit : Bool) (c : Builder) → length b.bytes ≡ 128 → repeated b n bit ≡ ok c
+pub repeated-bits : (b : Builder) (n : ℕ) (bit : Bool) (c : Builder) → length b.bytes ≡ 128 → repeated b n bit ≡ Ok c
     → first_bits c.len c.bytes ≡ first_bits b.len b.bytes ++ replicate n (bit_of bit)
 repeated-bits b n bit c w e = bits_followed b n (replicate n (bit_of bit)) c w (repeated-is b n bit c e)
 
@@ -362,11 +362,11 @@ appends-clean b n xs c C a =
       unused = C.unused;
     }
 
-pub referred-clean : (b : Builder) (r : ℕ) (c : Builder) → Clean b → referred b r ≡ ok c → Clean c
+pub referred-clean : (b : Builder) (r : ℕ) (c : Builder) → Clean b → referred b r ≡ Ok c → Clean c
 unfolding referred
 referred-clean b r c C e =
     check_use (ltb b.count max_refs) (refusal REFS 0)
-    (λ _. ok (record { exotic = b.exotic; len = b.len; bytes = b.bytes; count = suc b.count; refs = set b.refs b.count r })) c e λ t e₁.
+    (λ _. Ok (record { exotic = b.exotic; len = b.len; bytes = b.bytes; count = suc b.count; refs = set b.refs b.count r })) c e λ t e₁.
     let l = ltb-true b.count 4 t in
     let m : 4 - b.count - 1 ≡ 4 - suc b.count = omega arith in
     let z : drop (suc b.count) (set b.refs b.count r) ≡ replicate (4 - suc b.count) 0 =
@@ -388,9 +388,9 @@ referred-clean b r c C e =
 -- a builder that steps make of a new one
 pub data Made : Builder → Type 0 where
   start : (exotic : Bool) → Made (new_builder exotic)
-  written : {b c : Builder} (n : ℕ) (from : List ℕ) → Made b → appended b n from ≡ ok c → Made c
-  filled : {b c : Builder} (n : ℕ) (bit : Bool) → Made b → repeated b n bit ≡ ok c → Made c
-  linked : {b c : Builder} (r : ℕ) → Made b → referred b r ≡ ok c → Made c
+  written : {b c : Builder} (n : ℕ) (from : List ℕ) → Made b → appended b n from ≡ Ok c → Made c
+  filled : {b c : Builder} (n : ℕ) (bit : Bool) → Made b → repeated b n bit ≡ Ok c → Made c
+  linked : {b c : Builder} (r : ℕ) → Made b → referred b r ≡ Ok c → Made c
 
 pub made-clean : {b : Builder} → Made b → Clean b
 made-clean (start exotic) = new-clean exotic

@@ -1,6 +1,6 @@
 -- A written cell reads back as the cell.
 -- Assumes nothing.
-use Rattle.std.specs.Prelude.{◌≡◌, ◌≢◌, ℕ, zero, suc, ◌+◌, ◌-◌, ◌*◌, ◌/◌, ◌%◌, ◌^◌, ◌≤◌, ◌<◌, Bool, cond, not, ◌||◌, ◌&&◌, leb}
+use Rattle.std.specs.Prelude.{◌≡◌, ◌≢◌, ℕ, zero, suc, ◌+◌, ◌-◌, ◌*◌, ◌/◌, ◌%◌, ◌^◌, ◌≤◌, ◌<◌, Bool, cond, not, ◌||◌, ◌&&◌, leb, Ok}
 use Rattle.std.proofs.Math.Path.{refl}
 use Rattle.std.proofs.Common.{sym, ap, ◌∙◌, not-suc-le-zero, length-append}
 use native.Mathlib.Omega.{arith}
@@ -16,7 +16,6 @@ use Rattle.scheme.specs.Cells.{Cell}
 use Rattle.laws.specs.CellLaws.{cell_path}
 use Rattle.scheme.specs.Bytes.{be, fields}
 use Rattle.scheme.specs.Bits.{zeros, last_of, mark, unmark, mask}
-use Rattle.scheme.specs.Res.{ok}
 use Rattle.laws.specs.Fields.{At, at_move, at_same, at_next, at-chunk, field-be, field-byte, length-be}
 use Rattle.scheme.specs.Bag.{hashes, bits, Bits, raw_cell, Past}
 use Rattle.scheme.specs.Write.{Leveled, refs_descriptor, bits_descriptor, padded, all_be, cell_bytes}
@@ -87,11 +86,11 @@ bits_path : (a b : Bits) → a.len ≡ b.len → a.bytes ≡ b.bytes → a ≡ b
 bits_path a b p q = λ i. record { len = p i; bytes = q i }
 
 module _ (c : Cell) (F : Fit c) where
-  bits_back : (q : ℕ) → bits (eqb (bits_descriptor c.len % 2) 1) q (padded c) ≡ ok (record { len = c.len; bytes = c.bytes })
+  bits_back : (q : ℕ) → bits (eqb (bits_descriptor c.len % 2) 1) q (padded c) ≡ Ok (record { len = c.len; bytes = c.bytes })
   unfolding bits
   bits_back q = go (eqb (c.len % 8) 0) refl
     where
-      go : (b : Bool) → eqb (c.len % 8) 0 ≡ b → bits (eqb (bits_descriptor c.len % 2) 1) q (cond b c.bytes (mark (2 ^ (7 - c.len % 8)) c.bytes)) ≡ ok (record { len = c.len; bytes = c.bytes })
+      go : (b : Bool) → eqb (c.len % 8) 0 ≡ b → bits (eqb (bits_descriptor c.len % 2) 1) q (cond b c.bytes (mark (2 ^ (7 - c.len % 8)) c.bytes)) ≡ Ok (record { len = c.len; bytes = c.bytes })
       go true e =
           let z = eqb-true (c.len % 8) 0 e in
           let even : bits_descriptor c.len % 2 ≡ 0 = omega arith in
@@ -104,7 +103,7 @@ module _ (c : Cell) (F : Fit c) where
           let fact = pad_fact (last_of c.bytes) (c.len % 8) (F.small (last_of c.bytes) (last_mem c.bytes some)) (omega arith) e (eq-eqb _ _ (F.clean z)) in
           let seven : eqb (7 - c.len % 8) 7 ≡ false = ne_eqb (7 - c.len % 8) 7 (λ g. omega arith) in
           rw (odd, last-mark (2 ^ (7 - c.len % 8)) c.bytes some, fact.1, fact.0, unmark-mark (7 - c.len % 8) c.bytes seven, length-mark (2 ^ (7 - c.len % 8)) c.bytes)
-          (ap ok (bits_path _ _ (omega (arith, F.many)) refl))
+          (ap Ok (bits_path _ _ (omega (arith, F.many)) refl))
 
   pub length-padded : length (padded c) ≡ (c.len + 7) / 8
   length-padded = go (eqb (c.len % 8) 0)
@@ -117,7 +116,7 @@ pub length-refs : (size : ℕ) (rs : List ℕ) → length (all_be size rs) ≡ l
 length-refs size [] = omega arith
 length-refs size (r ∷ rs) = omega (arith, length-append (be size r) (all_be size rs), length-be size r, length-refs size rs)
 
-pub refs-back : {b : List ℕ} (size : ℕ) {p : ℕ} (rs l : List ℕ) → At b p (all_be size rs ++ l) → ((r : ℕ) → Mem r rs → r < 256 ^ size) → fields b size (length rs) p ≡ ok rs
+pub refs-back : {b : List ℕ} (size : ℕ) {p : ℕ} (rs l : List ℕ) → At b p (all_be size rs ++ l) → ((r : ℕ) → Mem r rs → r < 256 ^ size) → fields b size (length rs) p ≡ Ok rs
 refs-back size [] l A h = refl
 refs-back {b = b} size {p = p} (r ∷ rs) l A h =
     let A₁ = at_same (be size r ++ (all_be size rs ++ l)) A (append_assoc (be size r) (all_be size rs) l) in
@@ -140,7 +139,7 @@ unfolding cell_bytes
 length-cell size v F = omega (arith, length-append (padded v.cell) (all_be size v.cell.refs), length-padded v.cell F, length-refs size v.cell.refs)
 
 pub cell-back : {b : List ℕ} (size : ℕ) {p : ℕ} (v : Leveled) (l : List ℕ) → Fit v.cell → v.level ≤ 7 → ((r : ℕ) → Mem r v.cell.refs → r < 256 ^ size) → At b p (cell_bytes size v ++ l)
-    → raw_cell b size p ≡ ok (record { it = v.cell; next = p + length (cell_bytes size v) })
+    → raw_cell b size p ≡ Ok (record { it = v.cell; next = p + length (cell_bytes size v) })
 unfolding raw_cell cell_bytes
 cell-back {b} size {p} v l F L R A =
     let c = v.cell in
@@ -164,6 +163,6 @@ cell-back {b} size {p} v l F L R A =
     let f₄ = at-chunk [] ((padded c ++ all_be size c.refs) ++ l) (hashes d1) A₂ (sym plain) in
     let f₅ = at-chunk (padded c) (all_be size c.refs ++ l) ((d2 + 1) / 2) A₃ full in
     let f₆ = bits_back c F (p + 2 + hashes d1) in
-    let f₇ : fields b size (d1 % 8) (p + 2 + hashes d1 + (d2 + 1) / 2) ≡ ok c.refs = rw m₁ (refs-back size c.refs l A₄ R) in
+    let f₇ : fields b size (d1 % 8) (p + 2 + hashes d1 + (d2 + 1) / 2) ≡ Ok c.refs = rw m₁ (refs-back size c.refs l A₄ R) in
     let next : p + 2 + hashes d1 + (d2 + 1) / 2 + d1 % 8 * size ≡ p + length (cell_bytes size v) = rw m₁ (omega (arith, length-cell size v F)) in
-    rw (f₁, f₂, f₃, f₄, f₅, f₆, f₇) (ap ok (past_path _ _ (cell_path _ c m₂ refl refl refl) next))
+    rw (f₁, f₂, f₃, f₄, f₅, f₆, f₇) (ap Ok (past_path _ _ (cell_path _ c m₂ refl refl refl) next))

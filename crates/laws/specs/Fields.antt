@@ -1,11 +1,10 @@
 -- What is written as a number reads back as that number: the bytes from a place on, and the fields there.
 -- Assumes nothing.
-use Rattle.std.specs.Prelude.{◌≡◌, refl, ℕ, zero, suc, ◌+◌, ◌*◌, ◌/◌, ◌%◌, ◌^◌, ◌≤◌, ◌<◌, Bool, true, false, cond, List, [], ◌∷◌, ◌++◌, length, take, drop, eqb}
+use Rattle.std.specs.Prelude.{◌≡◌, refl, ℕ, zero, suc, ◌+◌, ◌*◌, ◌/◌, ◌%◌, ◌^◌, ◌≤◌, ◌<◌, Bool, true, false, cond, List, [], ◌∷◌, ◌++◌, length, take, drop, eqb, Ok}
 use Rattle.std.proofs.Common.{sym, ap, ◌∙◌, zero-add, arith, append_assoc, length-append, length-drop, take-append-drop, drop_at, drop-drop, length-take-le, le-leb, eqb-true}
 use Rattle.std.proofs.Math.Seq.{take_at}
 use Rattle.std.proofs.lemmas.Bool.{eqb-false}
 use Rattle.scheme.specs.Bytes.{be, unbe, le, unle, width, chunk, field, fields}
-use Rattle.scheme.specs.Res.{ok}
 
 pub length-be : (k n : ℕ) → length (be k n) ≡ k
 length-be zero n = refl
@@ -76,23 +75,23 @@ module _ {b : List ℕ} {p : ℕ} (xs l : List ℕ) (k : ℕ) (A : At b p (xs ++
   pub at_next : At b (p + k) l
   at_next = record { within = at_room; rest = sym (drop-drop k p b) ∙ rw A.rest (drop_at xs l k e) }
 
-  pub at-chunk : chunk b p k ≡ ok xs
+  pub at-chunk : chunk b p k ≡ Ok xs
   unfolding chunk
   at-chunk = rw (le-leb (p + k) (length b) at_room, A.rest, take_at xs l k e)
 
 pub at-end : {b : List ℕ} {p : ℕ} → At b p [] → p ≡ length b
 at-end {b} {p} A = omega (arith, length-drop p b, ap length A.rest, A.within)
 
-pub field-be : {b : List ℕ} {p : ℕ} (k n : ℕ) (l : List ℕ) → At b p (be k n ++ l) → n < 256 ^ k → field b p k ≡ ok n
+pub field-be : {b : List ℕ} {p : ℕ} (k n : ℕ) (l : List ℕ) → At b p (be k n ++ l) → n < 256 ^ k → field b p k ≡ Ok n
 unfolding chunk field
 field-be k n l A h = rw (at-chunk (be k n) l k A (length-be k n), unbe-be k n h)
 
-pub field-byte : {b : List ℕ} {p : ℕ} (x : ℕ) (l : List ℕ) → At b p (x ∷ l) → field b p 1 ≡ ok x
+pub field-byte : {b : List ℕ} {p : ℕ} (x : ℕ) (l : List ℕ) → At b p (x ∷ l) → field b p 1 ≡ Ok x
 unfolding chunk field
 field-byte x l A = rw (at-chunk (x ∷ []) l 1 A refl, zero-add x)
 
 -- n numbers of k bytes can be read where there are so many bytes
-pub fields-any : {b : List ℕ} (k n : ℕ) {p : ℕ} (xs l : List ℕ) → At b p (xs ++ l) → length xs ≡ n * k → (vs : List ℕ) × (fields b k n p ≡ ok vs)
+pub fields-any : {b : List ℕ} (k n : ℕ) {p : ℕ} (xs l : List ℕ) → At b p (xs ++ l) → length xs ≡ n * k → (vs : List ℕ) × (fields b k n p ≡ Ok vs)
 unfolding chunk field
 fields-any k zero xs l A e = ([], refl)
 fields-any {b} k (suc n) {p} xs l A e =

@@ -1,13 +1,13 @@
 -- What a store keeps to: its references go down, its cells differ and are fit, and they have room. That clears, adds and reads keep it is in proofs/Kept.
 -- Assumes nothing.
-use Rattle.std.specs.Prelude.{◌≡◌, ℕ, ◌≤◌, ◌<◌, length, leb, Bool}
+use Rattle.std.specs.Prelude.{◌≡◌, ℕ, ◌≤◌, ◌<◌, length, leb, Bool, Ok, Err}
 use Rattle.std.proofs.Common.{not-suc-le-zero, arith}
 use mathlib.Core.List.{List, []}
 use Rattle.scheme.specs.Refusals.{NOROOM}
 use Rattle.scheme.specs.Cells.{Cell, at, with}
 use Rattle.laws.specs.Unique.{Sound, sound-nil}
 use Rattle.scheme.specs.Bag.{read, Got}
-use Rattle.scheme.specs.Res.{Res, bad, ok, check, refusal}
+use Rattle.scheme.specs.Res.{Res, check, refusal}
 use Rattle.scheme.specs.Write.{write, serialized}
 use Rattle.laws.specs.CellRound.{Fit}
 use Rattle.laws.specs.Accept.{Small, then_use}
@@ -39,12 +39,12 @@ TypedOp (adds b) = Typed b
 TypedOp (reads whole scratch room b) = Small b
 
 abbrev pub added_store : List Cell → Res Added → List Cell
-added_store s (bad r) = s
-added_store s (ok a) = a.store
+added_store s (Err r) = s
+added_store s (Ok a) = a.store
 
 abbrev pub got_store : List Cell → Res Got → List Cell
-got_store s (bad r) = s
-got_store s (ok g) = g.store
+got_store s (Err r) = s
+got_store s (Ok g) = g.store
 
 module _ (cap : ℕ) where
   -- a store that was cleared
@@ -57,7 +57,7 @@ module _ (cap : ℕ) where
   after s (reads whole scratch room b) = got_store s (read whole scratch room cap s b)
 
 -- what is written, if it is not refused
-pub write-inv : (out : ℕ) (idx sum : Bool) (s : List Cell) (root : ℕ) (b : List ℕ) → serialized idx sum s root out ≡ ok b → b ≡ write idx sum s root
+pub write-inv : (out : ℕ) (idx sum : Bool) (s : List Cell) (root : ℕ) (b : List ℕ) → serialized idx sum s root out ≡ Ok b → b ≡ write idx sum s root
 unfolding serialized
 write-inv out idx sum s root b e =
     then_use (check (leb (length (write idx sum s root)) out) (refusal NOROOM (length (write idx sum s root)))) _ _ e λ u₃ x₃ e₃.

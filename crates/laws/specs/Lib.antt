@@ -28,3 +28,4 @@ pub mod BitLaws
 pub mod Adding
 pub mod OneAnswer
 pub mod Numbers
+pub mod Answers

@@ -1,11 +1,12 @@
 -- Bytes written at a place, one after another. Assumes nothing.
 use Rattle.std.specs.Prelude.{◌≡◌, refl, List, [], ◌∷◌, ◌++◌, ℕ, suc, ◌+◌, ◌<◌, ◌≤◌, length, take, drop, get_or, set}
-use Rattle.std.proofs.Common.{◌∙◌, add-zero, zero-add, add_assoc, add-one, arith, length-set, drop-cons}
+use Rattle.std.proofs.Common.{sym, ◌∙◌, add-zero, zero-add, add_assoc, add-one, arith, length-set, drop-cons, drop-drop, append_assoc}
 use Rattle.std.proofs.lemmas.List.Edits.{sets, sets-eq}
 use Rattle.std.proofs.lemmas.List.{set_comm}
+use borrow.Rule.Slice.PartMut.{put_mid}
 
 -- vs written from place i on
-unfoldable pub puts : List ℕ → ℕ → List ℕ → List ℕ
+unfoldable pub puts : {A : Type 0} → List A → ℕ → List A → List A
 puts l i [] = l
 puts l i (v ∷ vs) = puts (set l i v) (i + 1) vs
 
@@ -44,14 +45,18 @@ puts-on l m i j a b e q = rw (e, q) (puts-append l i a b)
 pub puts_then : (l m k : List ℕ) (i j : ℕ) (a b : List ℕ) → m ≡ puts l i a → j ≡ i + length a → k ≡ puts m j b → k ≡ puts l i (a ++ b)
 puts_then l m k i j a b e q r = r ∙ puts-on l m i j a b e q
 
-puts_sets : (l : List ℕ) (i : ℕ) (vs : List ℕ) → puts l i vs ≡ sets l i vs
+puts_sets : {A : Type 0} (l : List A) (i : ℕ) (vs : List A) → puts l i vs ≡ sets l i vs
 unfolding puts
 puts_sets l i [] = refl
 puts_sets l i (v ∷ vs) = rw add-one (puts_sets (set l i v) (suc i) vs)
 
 -- what is written, as the parts of the whole
-pub puts-parts : (l : List ℕ) (i : ℕ) (vs : List ℕ) → i + length vs ≤ length l → puts l i vs ≡ take i l ++ vs ++ drop (i + length vs) l
+pub puts-parts : {A : Type 0} (l : List A) (i : ℕ) (vs : List A) → i + length vs ≤ length l → puts l i vs ≡ take i l ++ vs ++ drop (i + length vs) l
 puts-parts l i vs h = puts_sets l i vs ∙ sets-eq vs l i h
+
+-- a part of the list overwritten by vs
+pub puts-part : {A : Type 0} (l : List A) (i k : ℕ) (ws vs : List A) → i + length vs ≤ length l → k ≡ length vs → ws ≡ vs → put_mid i k l ws ≡ puts l i vs
+puts-part l i k ws vs h e f = rw (e, f, drop-drop (length vs) i l, ← append_assoc (take i l) vs (drop (i + length vs) l)) (sym (puts-parts l i vs h))
 
 -- at the start
 pub puts-start : (l vs : List ℕ) → length vs ≤ length l → puts l 0 vs ≡ vs ++ drop (length vs) l

@@ -1,15 +1,19 @@
 -- One step of the passes that make the order. Assumes nothing.
 use mathlib.Core.Path.{◌≡◌, refl, sym, ap, ◌∙◌}
-use mathlib.Core.Bool.{Bool, true, false, cond}
+use mathlib.Core.Bool.{Bool, true, false, cond, ◌||◌}
 use mathlib.Core.List.{List, [], ◌∷◌, ◌++◌, append_assoc}
 use Prim.Native.Nat.{ℕ, zero, suc, ◌+◌, ◌-◌, ◌*◌, ◌<◌, ◌≤◌}
-use native.Mathlib.Nat.{not-suc-le-zero}
+use native.Mathlib.Nat.{not-suc-le-zero, zero-add}
 use native.Mathlib.Numerals.{add-one}
 use native.Mathlib.Omega.{arith}
 use lib.ListN.{length, take, drop, get_or, set, length-append, length-set}
 use lib.Seq.{slice, length-slice, length-take-le, get_or-take, get_or-set_same, get_or-set_other, set_out, take-set-le, take-set-lt, drop-set-lt, take-suc-set, drop-append-le}
 use lib.Dec.{eqb, ltb}
 use borrow.Author.Tests.{eq-eqb, ne_eqb, eqb-true, eqb-false, ltb-true, ltb-false}
+use Rattle.std.specs.Prelude.{MatchBool, HoldsAt}
+use Rattle.std.specs.List.{range_with_len, AllWithin}
+use Rattle.std.proofs.Math.Bool.{or-true}
+use Rattle.std.proofs.lemmas.List.FromFn.{length-range_with_len, get_or-range_with_len}
 use Rattle.scheme.specs.Order.{memb}
 use Rattle.laws.specs.Counts.{Settled, settle, bump, count_down}
 use Rattle.laws.specs.Records.{refs_at, RecordOk, refs-cons}
@@ -18,25 +22,36 @@ use Rattle.order.proofs.Kids.{kids_refs}
 
 -- ---- the references seen
 
-pub seen-cons : (t : List ℕ) (i k : ℕ) → 0 < k → seen_at t i k ≡ get_or t (i * 7 + (3 + (k - 1))) 0 ∷ seen_at t i (k - 1)
-unfolding seen_at
-seen-cons t i zero h = absurd (not-suc-le-zero h)
-seen-cons t i (suc k) h = let e : suc k - 1 ≡ k = omega arith in rw e refl
-
 pub seen_next : (t : List ℕ) (i j : ℕ) → seen_at t i (j + 1) ≡ get_or t (i * 7 + (3 + j)) 0 ∷ seen_at t i j
 unfolding seen_at
 seen_next t i j = rw (add-one j) refl
 
-pub seen_none : (t : List ℕ) (i : ℕ) → seen_at t i 0 ≡ []
-unfolding seen_at
-seen_none t i = refl
+module _ (t : List ℕ) (i x : ℕ) where
+  -- reference k is x
+  abbrev pub Hit : ℕ → Type 0
+  Hit k = get_or t (i * 7 + (3 + k)) 0 ≡ x
 
-module _ (t : List ℕ) (i j x y k : ℕ) (h : 0 < k) (q : y ≡ get_or t (i * 7 + (3 + (k - 1))) 0) where
-  pub named_hit : x ≡ y → memb x (seen_at t i k) ≡ memb x (seen_at t i j) → true ≡ memb x (seen_at t i j)
-  named_hit e p = sym (rw (seen-cons t i k h, ← q, eq-eqb x y e)) ∙ p
+  seen-hit : (j k : ℕ) → k < j → Hit k → memb x (seen_at t i j) ≡ true
+  unfolding seen_at
+  seen-hit zero k h e = absurd (omega arith)
+  seen-hit (suc j) k h e = go (eqb k j) refl (λ l. seen-hit j k l e)
+    where
+      go : (b : Bool) → eqb k j ≡ b → (k < j → memb x (seen_at t i j) ≡ true) → eqb x (get_or t (i * 7 + (3 + j)) 0) || memb x (seen_at t i j) ≡ true
+      go true q f = rw (eq-eqb x _ (sym (rw (eqb-true k j q) at e)))
+      go false q f = let o = eqb-false k j q in rw (f (omega arith), or-true)
 
-  pub named-on : (x ≡ y → ⊥) → memb x (seen_at t i k) ≡ memb x (seen_at t i j) → memb x (seen_at t i (k - 1)) ≡ memb x (seen_at t i j)
-  named-on e p = sym (rw (seen-cons t i k h, ← q, ne_eqb x y e)) ∙ p
+  seen-miss : (j : ℕ) → ((k : ℕ) → k < j → Hit k → ⊥) → memb x (seen_at t i j) ≡ false
+  unfolding seen_at
+  seen-miss zero f = refl
+  seen-miss (suc j) f = rw (ne_eqb x _ (λ e. f j (omega arith) (sym e)), seen-miss j (λ k h. f k (omega arith)))
+
+  -- the search through the first j references answers whether x is among them
+  pub named-is : (j : ℕ) (r : Bool) → MatchBool r ((k : ℕ) × (k < length (range_with_len 0 j)) × HoldsAt Hit (range_with_len 0 j) k) (AllWithin (λ k. Hit k → ⊥) (range_with_len 0 j) 0 (length (range_with_len 0 j))) → r ≡ memb x (seen_at t i j)
+  named-is j true (k, h, e) =
+      let g : k < j = rw length-range_with_len at h in
+      sym (seen-hit j k g (rw (get_or-range_with_len 0 j k 0 g, zero-add) at (e 0)))
+  named-is j false f =
+      sym (seen-miss j (λ k h. rw (get_or-range_with_len 0 j k 0 h, zero-add) at (f k 0 (omega arith) (rw length-range_with_len h))))
 
 -- ---- one parent more
 
@@ -184,14 +199,6 @@ module _ (s : List ℕ) (r n tail end : ℕ) (hr : r < n) (hn : n ≤ tail) (ht 
       go true a = get_or-set_other (less s r) end d r 0 (λ e. omega arith) ∙ less-kept d (omega arith)
       go false a = less-kept d (omega arith)
 
-pub wait_length : (s : List ℕ) (r end : ℕ) → length (wait_mem s r end) ≡ length s
-unfolding wait_mem
-wait_length s r end = go (last s r)
-  where
-    go : (b : Bool) → length (cond b (set (less s r) end r) (less s r)) ≡ length s
-    go true = length-set (less s r) end r ∙ length-set s r (get_or s r 0 - 1)
-    go false = length-set s r (get_or s r 0 - 1)
-
 pub wait_from : (s : List ℕ) (r end : ℕ) → end ≤ wait_end s r end
 unfolding wait_end
 wait_from s r end = go (last s r)
@@ -199,19 +206,6 @@ wait_from s r end = go (last s r)
     go : (b : Bool) → end ≤ cond b (end + 1) end
     go true = omega arith
     go false = omega arith
-
--- what the function does, by its test
-pub wait_join : (s : List ℕ) (r end : ℕ) → get_or s r 0 ≤ 1 → (set (set s r 0) end r ≡ wait_mem s r end) × (end + 1 ≡ wait_end s r end)
-unfolding wait_mem wait_end
-wait_join s r end h =
-    let e : get_or s r 0 - 1 ≡ 0 = omega arith in
-    (rw (eq-eqb (get_or s r 0 - 1) 0 e, e) refl, rw (eq-eqb (get_or s r 0 - 1) 0 e) refl)
-
-pub wait_on : (s : List ℕ) (r end : ℕ) → 1 < get_or s r 0 → (set s r (get_or s r 0 - 1) ≡ wait_mem s r end) × (end ≡ wait_end s r end)
-unfolding wait_mem wait_end
-wait_on s r end h =
-    let e : eqb (get_or s r 0 - 1) 0 ≡ false = ne_eqb (get_or s r 0 - 1) 0 (λ e. omega arith) in
-    (rw e refl, rw e refl)
 
 -- a turn of `settle`
 module _ (t : List ℕ) (i j r : ℕ) (ok : RecordOk t i) (h : j < get_or t (i * 7 + 2) 0) (q : r ≡ get_or t (i * 7 + (3 + j)) 0) (s : List ℕ) (n tail end : ℕ) (hr : r < n) (hn : n ≤ tail) (ht : tail ≤ end) (he : end ≤ length s) (X : Settled) (p : settle (seen_at t i j) (take n s) (slice tail end s) (drop j (refs_at t i)) ≡ X) where

@@ -11,22 +11,15 @@ ghost use Rattle.laws.specs.Counts.{bump, count_down, settle as settling};
 ghost use Rattle.laws.specs.Records.{refs_at, RecordOk, Linked};
 ghost use Rattle.order.specs.Queue.{kids_at, seen_at, Small, wait_mem, wait_end, Joined, Roomy, Listed, Placed, Ordered};
 
-use memory::{FIRST_REF, REFS_COUNT, entry, field, zero_numbers};
+use memory::{FIRST_REF, REFS_COUNT, entry, field};
+
 // Whether x is among the first j references of record i.
 fn named(table: &[u32], i: usize, j: usize, x: usize) -> bool
     requires record_ok { RecordOk table.now i }
     requires j_bound { j ≤ 4 }
     ensures { result ≡ memb x (seen_at table.now i j) }
 {
-    let mut k = j;
-    while 0 < k {
-        k -= 1;
-        let y = field(table, i, FIRST_REF + k);
-        if x == y {
-            return true;
-        }
-    }
-    false
+    (0..j).any(|k| field(table, i, FIRST_REF + k) == x)
 }
 
 // One parent more for each reference of record i, at its first place.
@@ -37,13 +30,11 @@ fn count_refs(table: &[u32], i: usize, scratch: &mut [u32])
     ensures { scratch.new ≡ bump [] scratch.old (refs_at table.now i) }
 {
     let k = field(table, i, REFS_COUNT);
-    let mut j = 0;
-    while j < k {
+    for j in 0..k {
         let r = field(table, i, FIRST_REF + j);
         if !named(table, i, j, r) {
             scratch[r] += 1;
         }
-        j += 1;
     }
 }
 
@@ -56,9 +47,7 @@ fn count_parents(table: &[u32], root: usize, scratch: &mut [u32])
     ensures { (n : ℕ) → root < n → scratch.new ≡ count_down (kids_at table.now n) root (bump [] scratch.old (kids_at table.now n root)) }
 {
     count_refs(table, root, scratch);
-    let mut i = root;
-    while 0 < i {
-        i -= 1;
+    for i in (0..root).rev() {
         if scratch[i] != 0 {
             count_refs(table, i, scratch);
         }
@@ -66,6 +55,7 @@ fn count_parents(table: &[u32], root: usize, scratch: &mut [u32])
 }
 
 // One parent less for cell r, which joins the queue at its end when no other is left.
+#[tactic(auto, unfolding(crate::specs::Queue::wait_mem, crate::specs::Queue::wait_end))]
 fn wait_less(scratch: &mut [u32], r: usize, end: usize) -> usize
     requires r_bound { r < 4096 }
     requires r_in_bounds { r < length scratch.old }
@@ -93,14 +83,12 @@ fn settle(table: &[u32], i: usize, n: usize, tail: usize, scratch: &mut [u32]) -
     ensures { Joined table.now i n tail scratch.old scratch.new result }
 {
     let k = field(table, i, REFS_COUNT);
-    let mut j = 0;
     let mut end = tail;
-    while j < k {
+    for j in 0..k {
         let child = field(table, i, FIRST_REF + j);
         if !named(table, i, j, child) {
             end = wait_less(scratch, child, end);
         }
-        j += 1;
     }
     end
 }
@@ -117,6 +105,7 @@ fn list_cells(table: &[u32], n: usize, root: usize, scratch: &mut [u32]) -> usiz
     scratch[n] = root as u32;
     let mut head = n;
     let mut tail = n + 1;
+    // A queue: each turn may move its end.
     while head < tail {
         let x = entry(scratch, head);
         tail = settle(table, x, n, tail, scratch);
@@ -134,11 +123,9 @@ fn place_cells(n: usize, m: usize, scratch: &mut [u32])
     requires by_index { (x : ℕ) → Mem x (slice n (n + m) scratch.old) → x < n }
     ensures { Placed n m scratch.old scratch.new }
 {
-    let mut p = 0;
-    while p < m {
+    for p in 0..m {
         let x = entry(scratch, n + p);
         scratch[2 * n + x] = p as u32;
-        p += 1;
     }
 }
 
@@ -151,7 +138,7 @@ pub fn order(table: &[u32], n: usize, root: usize, scratch: &mut [u32]) -> usize
     requires n_in_bounds { 4 * n ≤ length scratch.old }
     ensures { Ordered table.now n root scratch.new result }
 {
-    zero_numbers(scratch);
+    scratch.fill(0);
     count_parents(table, root, scratch);
     let m = list_cells(table, n, root, scratch);
     place_cells(n, m, scratch);

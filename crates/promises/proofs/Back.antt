@@ -1,13 +1,13 @@
 -- Demand 3 (docs/DEMANDS.md), of what is written and read back: from what `serialize` and the readers promise, and `tapunerow_write` and
 -- `tapunerow_read`. Assumes nothing.
-use Rattle.std.specs.Prelude.{◌≡◌, refl, ℕ, ◌*◌, ◌≤◌, Bool, not, List, [], ◌∷◌, length, take, eqb}
+use Rattle.std.specs.Prelude.{◌≡◌, refl, ℕ, ◌*◌, ◌≤◌, Bool, not, List, [], ◌∷◌, length, take, eqb, Ok, Err}
 use Rattle.std.proofs.Common.{sym, ap, ◌∙◌}
-use Rattle.scheme.specs.Res.{Res, bad, ok}
+use Rattle.scheme.specs.Res.{Res, mapped}
 use Rattle.scheme.specs.Calls.{ReadOut, reading, writing}
 use Rattle.laws.specs.OneAnswer.{one_answer}
-use Rattle.reader.specs.Paper.{paper_inj}
-use Rattle.reader.specs.declared.ReadAnswer.TheVariants.{Done}
-use Rattle.tapunerow.specs.Accepted.{zero-accepted, write-answer}
+use Rattle.laws.specs.Answers.{mapped-apart}
+use Rattle.reader.specs.Paper.{totals_of, totals_inj}
+use Rattle.tapunerow.specs.Accepted.{zero-accepted}
 use Rattle.tapunerow.specs.Answers.{number_of, entries_of, single, counts}
 use Rattle.tapunerow.specs.Promises.{WireWrites}
 use Rattle.theorems.specs.Writing.{Writes}
@@ -18,20 +18,20 @@ use Rattle.promises.proofs.Steps.{ran_demand_3}
 use Rattle.promises.specs.Back.{listed, all_found, Leaves, WrittenBack}
 
 -- a write whose number is 0 and whose answer is len
-taken : (x : Res ℕ) (len : ℕ) → ((r : _) → x ≡ bad r → ⊥) → len ∷ [] ≡ entries_of 0 single x → x ≡ ok len
-taken (bad r) len h e = absurd (h r refl)
-taken (ok n) len h e = let q : len ≡ n = cc in ap ok (sym q)
+taken : (x : Res ℕ) (len : ℕ) → ((r : _) → x ≡ Err r → ⊥) → len ∷ [] ≡ entries_of 0 single x → x ≡ Ok len
+taken (Err r) len h e = absurd (h r refl)
+taken (Ok n) len h e = let q : len ≡ n = cc in ap Ok (sym q)
 
 module _ (m : Memory) (D : Demand3 m) (root : ℕ) where
   -- the read that follows a write, by the outcome of the definitions
   read_is : (idx crc whole : Bool) (s out : List ℕ) (len : ℕ) (o u rs : List ℕ)
-      → (writing idx crc m.count m.table m.bytes root s out).answer ≡ ok len → o ≡ (writing idx crc m.count m.table m.bytes root s out).out
+      → (writing idx crc m.count m.table m.bytes root s out).answer ≡ Ok len → o ≡ (writing idx crc m.count m.table m.bytes root s out).out
       → 2 * listed m root ≤ length u → 1 ≤ length rs
       → reading whole m.count m.table m.bytes u rs (take len o) ≡ found m len (listed m root) root u rs
   read_is idx crc whole s out len o u rs e q h g = rw q (D.back root idx crc s out len e whole u rs h g)
 
   bag-is : (idx crc : Bool) (s out : List ℕ) (len : ℕ) (o : List ℕ)
-      → (writing idx crc m.count m.table m.bytes root s out).answer ≡ ok len → o ≡ (writing idx crc m.count m.table m.bytes root s out).out
+      → (writing idx crc m.count m.table m.bytes root s out).answer ≡ Ok len → o ≡ (writing idx crc m.count m.table m.bytes root s out).out
       → Writes idx crc (cells m) root (take len o)
   bag-is idx crc s out len o e q = rw q (D.bag root idx crc s out len e)
 
@@ -46,18 +46,17 @@ module _ (m : Memory) (D : Demand3 m) (root : ℕ) where
   }
 
   wire_answer : (idx crc : ℕ) (s out : List ℕ) (len : ℕ) (s' o : List ℕ) → WireWrites idx crc m.count m.table m.bytes root s out 0 s' o (len ∷ [])
-      → (writing (not (eqb idx 0)) (not (eqb crc 0)) m.count m.table m.bytes root s out).answer ≡ ok len
+      → (writing (not (eqb idx 0)) (not (eqb crc 0)) m.count m.table m.bytes root s out).answer ≡ Ok len
   wire_answer idx crc s out len s' o p =
       let x = (writing (not (eqb idx 0)) (not (eqb crc 0)) m.count m.table m.bytes root s out).answer in
-      let numbered = write-answer m.count m.table m.bytes (not (eqb idx 0)) (not (eqb crc 0)) root s out in
-      taken x len (zero-accepted x numbered (sym p.number)) p.entries
+      taken x len (zero-accepted x (sym p.number)) p.entries
 
   written_back : WrittenBack m root
   written_back = record {
     bag = λ args s out len s' o p. bag-is args.has_idx args.has_crc32c s out len o (sym p.answer) p.out;
     back = λ args s out len s' o p whole u rs h g a m' u' rs' q.
         let e = read_is args.has_idx args.has_crc32c whole s out len o u rs (sym p.answer) p.out h g in (
-          one_answer _ paper_inj a (Done (all_found m root len)) (q.answer ∙ ap (λ (y : ReadOut). y.answer) e) refl,
+          one_answer (mapped totals_of) (mapped-apart totals_of totals_inj) a (Ok (all_found m root len)) (q.answer ∙ ap (λ (y : ReadOut). y.answer) e) refl,
           leaves m' len u rs u' rs' _ e q.count q.table q.bytes q.scratch q.roots,
         );
     wire_bag = λ idx crc s out len s' o p. bag-is (not (eqb idx 0)) (not (eqb crc 0)) s out len o (wire_answer idx crc s out len s' o p) p.out;

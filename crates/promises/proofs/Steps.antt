@@ -1,12 +1,12 @@
 -- Demand 3 (docs/DEMANDS.md), of the code: whatever public calls follow one another, what their functions promise makes each a step of a history, and so
 -- demand 3 holds of the memory that they leave. Assumes nothing.
-use Rattle.std.specs.Prelude.{◌≡◌, refl, ℕ, not, List, length, eqb}
+use Rattle.std.specs.Prelude.{◌≡◌, refl, ℕ, not, List, length, eqb, Ok, Err}
 use Rattle.std.proofs.Common.{sym, subst, arith}
-use Rattle.scheme.specs.Res.{Res, bad, ok}
+use Rattle.scheme.specs.Res.{Res}
 use Rattle.scheme.specs.Calls.{clearing}
 use Rattle.builder.specs.Paper.{builder_of}
 use Rattle.add_many.specs.Many.{cells_in}
-use Rattle.tapunerow.specs.Accepted.{zero-accepted, clear-answer}
+use Rattle.tapunerow.specs.Accepted.{zero-accepted}
 use Rattle.tapunerow.specs.Answers.{number_of}
 use Rattle.theorems.specs.Histories.{Memory, after, Reached, cleared, Demand3}
 use Rattle.theorems.proofs.Histories.{demand_3}
@@ -30,12 +30,12 @@ leads m m' (tapunerow_add flag bits own refs r a S p) =
 leads m m' (tapunerow_read whole s rs reply r s' rs' a S p) =
     ends (one-call m (call.read-bag (not (eqb whole 0)) s rs reply) S) p.count p.table p.bytes
 
-accepted : (n : ℕ) (t d : List ℕ) → number_of (clearing n t d).answer ≡ 0 → (clearing n t d).answer ≡ ok tt
+accepted : (n : ℕ) (t d : List ℕ) → number_of (clearing n t d).answer ≡ 0 → (clearing n t d).answer ≡ Ok tt
 accepted n t d z = go (clearing n t d).answer refl
   where
-    go : (x : Res (Unit {0})) → (clearing n t d).answer ≡ x → x ≡ ok tt
-    go (bad r) e = absurd (zero-accepted (clearing n t d).answer (clear-answer n t d) z r e)
-    go (ok tt) e = refl
+    go : (x : Res (Unit {0})) → (clearing n t d).answer ≡ x → x ≡ Ok tt
+    go (Err r) e = absurd (zero-accepted (clearing n t d).answer z r e)
+    go (Ok tt) e = refl
 
 ran-reached : (m : Memory) → Ran m → Reached after m
 ran-reached m' (starts m _ (clear-done p)) = subst (Reached after) (parts p.count p.table p.bytes) (cleared m (sym p.answer))

@@ -1,15 +1,13 @@
 -- Demand 3 (docs/DEMANDS.md), of what is written and read back, as a statement on what `serialize` and the readers promise, and `tapunerow_write` and
 -- `tapunerow_read`. It is proved in proofs/Back.
-use Rattle.std.specs.Prelude.{◌≡◌, ℕ, ◌*◌, ◌≤◌, Bool, not, List, [], ◌∷◌, length, take, eqb}
+use Rattle.std.specs.Prelude.{◌≡◌, ℕ, ◌*◌, ◌≤◌, Bool, not, List, [], ◌∷◌, length, take, eqb, Ok}
+use Rattle.scheme.specs.Res.{Res}
 use Rattle.scheme.specs.Order.{order_of}
 use Rattle.scheme.specs.Calls.{onto, zeroed}
 use Rattle.writer.specs.Paper.{Serialized}
 use Rattle.writer.specs.declared.BagOfCellsArgs.{BagOfCellsArgs}
-use Rattle.writer.specs.declared.Wrote.TheVariants.{Bytes}
 use Rattle.reader.specs.Paper.{Reads}
 use Rattle.reader.specs.declared.Counts.{Counts}
-use Rattle.reader.specs.declared.ReadAnswer.{ReadAnswer}
-use Rattle.reader.specs.declared.ReadAnswer.TheVariants.{Done}
 use Rattle.tapunerow.specs.Promises.{WireWrites, WireReads}
 use Rattle.theorems.specs.Writing.{Writes}
 use Rattle.theorems.specs.Histories.{Memory, cells}
@@ -32,14 +30,14 @@ pub record Leaves (m m' : Memory) (root : ℕ) (s rs s' rs' : List ℕ) : Type 0
 -- output afterwards; for the read u is the scratch and rs the root places
 pub record WrittenBack (m : Memory) (root : ℕ) : Type 0 where
   -- `serialize` wrote the bag that lists each cell that root reaches, once, root first, references later
-  pub bag : (args : BagOfCellsArgs) (s out : List ℕ) (len : ℕ) (s' o : List ℕ) → Serialized args m.count m.table m.bytes root s out (Bytes len) s' o
+  pub bag : (args : BagOfCellsArgs) (s out : List ℕ) (len : ℕ) (s' o : List ℕ) → Serialized args m.count m.table m.bytes root s out (Ok len) s' o
       → Writes args.has_idx args.has_crc32c (cells m) root (take len o)
   -- a reader that reads it into the same store, with room, answers root as the only root and adds no cell
-  pub back : (args : BagOfCellsArgs) (s out : List ℕ) (len : ℕ) (s' o : List ℕ) → Serialized args m.count m.table m.bytes root s out (Bytes len) s' o
+  pub back : (args : BagOfCellsArgs) (s out : List ℕ) (len : ℕ) (s' o : List ℕ) → Serialized args m.count m.table m.bytes root s out (Ok len) s' o
       → (whole : Bool) (u rs : List ℕ) → 2 * listed m root ≤ length u → 1 ≤ length rs
-      → (a : ReadAnswer) (m' : Memory) (u' rs' : List ℕ)
+      → (a : Res Counts) (m' : Memory) (u' rs' : List ℕ)
       → Reads whole m.count m.table m.bytes u rs (take len o) a m'.count m'.table m'.bytes u' rs'
-      → (a ≡ Done (all_found m root len)) × Leaves m m' root u rs u' rs'
+      → (a ≡ Ok (all_found m root len)) × Leaves m m' root u rs u' rs'
   -- the same of `tapunerow_write` and `tapunerow_read`
   pub wire_bag : (idx crc : ℕ) (s out : List ℕ) (len : ℕ) (s' o : List ℕ) → WireWrites idx crc m.count m.table m.bytes root s out 0 s' o (len ∷ [])
       → Writes (not (eqb idx 0)) (not (eqb crc 0)) (cells m) root (take len o)

@@ -1,12 +1,12 @@
 -- Every report fits the buffer that the programs lend for it: a line of at most 66 bytes, and one of at most 8,193 for each root place.
 -- So what is in the buffer is what the program prints. Assumes nothing.
-use Rattle.std.specs.Prelude.{◌≡◌, refl, ℕ, zero, suc, ◌+◌, ◌*◌, ◌/◌, ◌%◌, ◌≤◌, min, Bool, true, false, cond, List, [], ◌∷◌, ◌++◌, take, drop, leb, ltb}
+use Rattle.std.specs.Prelude.{◌≡◌, refl, ℕ, zero, suc, ◌+◌, ◌*◌, ◌/◌, ◌%◌, ◌≤◌, min, Bool, true, false, cond, List, [], ◌∷◌, ◌++◌, take, drop, leb, ltb, Ok, Err}
 use Rattle.std.proofs.Common.{ap, not-suc-le-zero, arith, length-append, take_at, leb-true, le-leb}
 use Rattle.std.proofs.Math.ListN.{length}
 use Rattle.scheme.specs.declared.Refusal.{Refusal}
-use Rattle.scheme.specs.Refusals.{STORE, NOROOM, DEEP, BUDGET}
+use Rattle.scheme.specs.Refusals.{reason_number, STORE, NOROOM, DEEP, BUDGET}
 use Rattle.scheme.specs.Limits.{max_path, max_budget}
-use Rattle.scheme.specs.Res.{Res, bad, ok, check, refusal}
+use Rattle.scheme.specs.Res.{Res, check, refusal}
 use Rattle.scheme.specs.Cells.{Cell, at}
 use Rattle.scheme.specs.Bag.{Got, read, read_scratch}
 use Rattle.scheme.specs.Text.{digits, text_of, tree_size, height, Page, page}
@@ -33,11 +33,11 @@ spaced-few n rest = let h = digits-few 20 n in omega (arith, length-append (digi
 
 refused-few : (r : Refusal) → length (refused_line r) ≤ 50
 refused-few r =
-    let a = spaced-few r.number (spaced r.place (10 ∷ [])) in
+    let a = spaced-few (reason_number r.reason) (spaced r.place (10 ∷ [])) in
     let b = spaced-few r.place (10 ∷ []) in
     omega arith
 
-page-few : (s : List Cell) (i budget room : ℕ) (p : Page) → page s i budget room ≡ ok p → length p.text ≤ room
+page-few : (s : List Cell) (i budget room : ℕ) (p : Page) → page s i budget room ≡ Ok p → length p.text ≤ room
 unfolding page
 page-few s i budget room p e =
     then_use (check (leb (height (at s) i) max_path) (refusal DEEP 0)) _ _ e λ u₁ x₁ e₁.
@@ -51,8 +51,8 @@ line-few : (s : List Cell) (i : ℕ) → length (page_line (page s i 1000 8192))
 line-few s i = go (page s i 1000 8192) refl
   where
     go : (r : Res Page) → page s i 1000 8192 ≡ r → length (page_line r) ≤ 8193
-    go (bad r) e = let h = refused-few r in omega arith
-    go (ok p) e = let h = page-few s i 1000 8192 p e in omega (arith, length-append p.text (10 ∷ []))
+    go (Err r) e = let h = refused-few r in omega arith
+    go (Ok p) e = let h = page-few s i 1000 8192 p e in omega (arith, length-append p.text (10 ∷ []))
 
 lines-few : (s : List Cell) (rs : List ℕ) → length (root_lines s rs) ≤ length rs * 8193
 unfolding root_lines
@@ -62,7 +62,7 @@ lines-few s (r ∷ rs) =
     let b = lines-few s rs in
     omega (arith, length-append (page_line (page s r 1000 8192)) (root_lines s rs))
 
-names-few : (scratch room cap : ℕ) (b : List ℕ) (g : Got) → Small b → read true scratch room cap [] b ≡ ok g → length g.names ≤ room
+names-few : (scratch room cap : ℕ) (b : List ℕ) (g : Got) → Small b → read true scratch room cap [] b ≡ Ok g → length g.names ≤ room
 unfolding bag_of
 names-few scratch room cap b g B e =
     let M = read-means true scratch room cap [] b g (λ i h. absurd (not-suc-le-zero h)) B e in
@@ -70,9 +70,9 @@ names-few scratch room cap b g B e =
     let q = S.is in
     omega (arith, M.2.names, ap (λ a. length a.roots) q, S.admissible.roots-lent)
 
-shown_few : (room : ℕ) (r : Res Got) → ((g : Got) → r ≡ ok g → length g.names ≤ room) → length (read_lines r) ≤ 66 + room * 8193
-shown_few room (bad r) h = let f = refused-few r in omega arith
-shown_few room (ok g) h =
+shown_few : (room : ℕ) (r : Res Got) → ((g : Got) → r ≡ Ok g → length g.names ≤ room) → length (read_lines r) ≤ 66 + room * 8193
+shown_few room (Err r) h = let f = refused-few r in omega arith
+shown_few room (Ok g) h =
     let n = h g refl in
     let l = lines-few g.store g.names in
     let c = spaced-few g.counts.roots (10 ∷ root_lines g.store g.names) in
@@ -94,7 +94,7 @@ either true x y k h g = h
 either false x y k h g = g
 
 module _ (n : ℕ) (t d s rs o input : List ℕ) (B : Small input) (r n' : ℕ) (t' d' s' rs' o' : List ℕ) (R : Reports n t d s rs o input r n' t' d' s' rs' o') where
-  fresh-few : (g : Got) → afresh t d (length s) (length rs) input ≡ ok g → length g.names ≤ length rs
+  fresh-few : (g : Got) → afresh t d (length s) (length rs) input ≡ Ok g → length g.names ≤ length rs
   unfolding afresh
   fresh-few g e =
       then_use (check (sized t d) (refusal STORE 0)) _ _ e λ u x e₁.

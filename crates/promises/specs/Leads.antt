@@ -1,8 +1,8 @@
 -- Each outcome of a public call as calls of a history, made in turn: none, one, or several. Assumes nothing.
-use Rattle.std.specs.Prelude.{◌≡◌, refl, ℕ, zero, suc, ◌+◌, ◌*◌, ◌≤◌, ◌<◌, Bool, true, false, cond, List, [], ◌∷◌, length, set, leb}
+use Rattle.std.specs.Prelude.{◌≡◌, refl, ℕ, zero, suc, ◌+◌, ◌*◌, ◌≤◌, ◌<◌, Bool, true, false, cond, List, [], ◌∷◌, length, set, leb, Ok, Err}
 use Rattle.std.proofs.Common.{sym, ◌∙◌, arith, le-leb}
 use Rattle.scheme.specs.Refusals.{CUT}
-use Rattle.scheme.specs.Res.{Res, bad, ok, check, refusal}
+use Rattle.scheme.specs.Res.{Res, check, refusal}
 use Rattle.scheme.specs.Memory.{sized}
 use Rattle.scheme.specs.Calls.{clearing, adding}
 use Rattle.scheme.specs.Program.{ReportOut, max_input, reporting}
@@ -58,8 +58,8 @@ left_many o = record { count = o.count; table = o.table; bytes = o.bytes }
 after_one_lem : (hs ds : List ℕ) (i n : ℕ) (t d xs : List ℕ) (rest : ℕ → ManyOut) → Typed (builder_at hs ds i)
     → let o = adding n t d (builder_at hs ds i) in
     (x : Res ℕ) → ((m : ℕ) → Leads (memory o.count o.table o.bytes) (left_many (rest m))) → Leads (memory n t d) (left_many (after_one i o xs rest x))
-after_one_lem hs ds i n t d xs rest T (bad r) f = one-call (memory n t d) (add-cell (builder_at hs ds i)) T
-after_one_lem hs ds i n t d xs rest T (ok m) f = record { calls = add-cell (builder_at hs ds i) ∷ (f m).calls; typed = (T, (f m).typed); to = (f m).to }
+after_one_lem hs ds i n t d xs rest T (Err r) f = one-call (memory n t d) (add-cell (builder_at hs ds i)) T
+after_one_lem hs ds i n t d xs rest T (Ok m) f = record { calls = add-cell (builder_at hs ds i) ∷ (f m).calls; typed = (T, (f m).typed); to = (f m).to }
 
 pub many-leads : (hs ds : List ℕ) (k i n : ℕ) (t d xs : List ℕ) → ((j : ℕ) → i ≤ j → j < i + k → Typed (builder_at hs ds j))
     → Leads (memory n t d) (left_many (many hs ds k i n t d xs))
@@ -75,7 +75,7 @@ many-leads hs ds (suc k) i n t d xs T =
 abbrev pub left_report : ReportOut → Memory
 left_report o = record { count = o.count; table = o.table; bytes = o.bytes }
 
-clearing-accepted : (n : ℕ) (t d : List ℕ) → sized t d ≡ true → (clearing n t d).answer ≡ ok tt
+clearing-accepted : (n : ℕ) (t d : List ℕ) → sized t d ≡ true → (clearing n t d).answer ≡ Ok tt
 unfolding clearing
 clearing-accepted n t d e = rw e
 

@@ -1,12 +1,12 @@
 -- What a frame keeps to. Assumes nothing.
-use Rattle.std.specs.Prelude.{ℕ, ◌+◌, ◌-◌, ◌*◌, ◌/◌, ◌%◌, ◌≤◌, ◌<◌, ◌≡◌, refl, Bool, true, false, not, cond, List, length, get_or, eqb, leb}
+use Rattle.std.specs.Prelude.{ℕ, ◌+◌, ◌-◌, ◌*◌, ◌/◌, ◌%◌, ◌≤◌, ◌<◌, ◌≡◌, refl, Bool, true, false, not, cond, List, length, get_or, eqb, leb, Ok}
 use Rattle.std.proofs.Common.{ap, arith, leb-true}
 use Rattle.std.proofs.lemmas.Bool.{eqb-false}
 use Rattle.laws.specs.Accept.{then_use, check_inv}
 use Rattle.scheme.specs.Refusals.{REFS, PADDING}
-use Rattle.scheme.specs.Res.{ok, check, refusal}
+use Rattle.scheme.specs.Res.{check, refusal}
 use Rattle.scheme.specs.Bits.{bytes_for, zeros}
-use Rattle.scheme.specs.Bag.{Past, hashes}
+use Rattle.scheme.specs.Bag.{hashes}
 use Rattle.bits.specs.Field.{byte_at, skip_at, skip_fields_at}
 use Rattle.bits.specs.Laws.{skip-past, byte-is, skip-fields-end}
 use Rattle.raw_cell.specs.Frame.{bits_in, data_at, body_at, frame}
@@ -25,7 +25,7 @@ pub record Within (b : List ℕ) (size p : ℕ) (f : RawCell) : Type 0 where
   pub refs_end : f.next ≡ f.links + f.refs * size
   pub inside : f.next ≤ length b
 
-bits_in_lem : (odd : Bool) (p n last len : ℕ) → n ≤ 128 → (odd ≡ false → n ≤ 127) → bits_in odd p n last ≡ ok len → (len ≤ 1023) × (bytes_for len ≤ n)
+bits_in_lem : (odd : Bool) (p n last len : ℕ) → n ≤ 128 → (odd ≡ false → n ≤ 127) → bits_in odd p n last ≡ Ok len → (len ≤ 1023) × (bytes_for len ≤ n)
 unfolding bits_in
 bits_in_lem false p n last len h g e =
     let q : 8 * n ≡ len = cc in
@@ -43,35 +43,35 @@ hashes-le d1 = go (eqb (d1 / 16 % 2) 1)
     go true = omega arith
     go false = omega arith
 
-pub frame-within : (b : List ℕ) (size p : ℕ) (f : RawCell) → ((i : ℕ) → get_or b i 0 < 256) → frame b size p ≡ ok f → Within b size p f
+pub frame-within : (b : List ℕ) (size p : ℕ) (f : RawCell) → ((i : ℕ) → get_or b i 0 < 256) → frame b size p ≡ Ok f → Within b size p f
 unfolding frame body_at data_at
 frame-within b size p f small e =
     then_use (byte_at b p) _ _ e λ d1 x₁ e₁.
-    then_use (check (leb (d1.it % 8) 4) (refusal REFS p)) _ _ e₁ λ u₂ x₂ e₂.
-    then_use (byte_at b d1.next) _ _ e₂ λ d2 x₃ e₃.
-    then_use (skip_at b d2.next (hashes d1.it)) _ _ e₃ λ body x₄ e₄.
-    then_use (data_at b body d2.it) _ _ e₄ λ w x₅ e₅.
-    then_use (skip_fields_at b size (d1.it % 8) w.next) _ _ e₅ λ next x₆ e₆.
-    then_use (skip_at b body ((d2.it + 1) / 2)) _ _ x₅ λ q x₇ e₇.
-    then_use (bits_in (eqb (d2.it % 2) 1) body ((d2.it + 1) / 2) (get_or b (q - 1) 0)) _ _ e₇ λ len x₈ e₈.
+    then_use (check (leb (d1.0 % 8) 4) (refusal REFS p)) _ _ e₁ λ u₂ x₂ e₂.
+    then_use (byte_at b d1.1) _ _ e₂ λ d2 x₃ e₃.
+    then_use (skip_at b d2.1 (hashes d1.0)) _ _ e₃ λ body x₄ e₄.
+    then_use (data_at b body d2.0) _ _ e₄ λ w x₅ e₅.
+    then_use (skip_fields_at b size (d1.0 % 8) w.1) _ _ e₅ λ next x₆ e₆.
+    then_use (skip_at b body ((d2.0 + 1) / 2)) _ _ x₅ λ q x₇ e₇.
+    then_use (bits_in (eqb (d2.0 % 2) 1) body ((d2.0 + 1) / 2) (get_or b (q - 1) 0)) _ _ e₇ λ len x₈ e₈.
     let k₁ = byte-is b p d1 x₁ in
-    let k₂ = leb-true (d1.it % 8) 4 (check_inv (leb (d1.it % 8) 4) (refusal REFS p) u₂ x₂) in
-    let k₃ = byte-is b d1.next d2 x₃ in
-    let k₄ = skip-past b d2.next (hashes d1.it) body x₄ in
-    let k₆ = skip-fields-end b size (d1.it % 8) w.next next x₆ in
-    let k₇ = skip-past b body ((d2.it + 1) / 2) q x₇ in
-    let low : d2.it < 256 = omega (arith, small d1.next) in
-    let k₈ = bits_in_lem (eqb (d2.it % 2) 1) body ((d2.it + 1) / 2) (get_or b (q - 1) 0) len (omega arith) (λ o. let z = eqb-false (d2.it % 2) 1 o in omega arith) x₈ in
-    let v : w ≡ record { it = len; next = q } = cc in
-    let v₁ : w.it ≡ len = ap (λ (x : Past ℕ). x.it) v in
-    let v₂ : w.next ≡ q = ap (λ (x : Past ℕ). x.next) v in
-    let r : f ≡ record { exotic = d1.it / 8 % 2; refs = d1.it % 8; bits = w.it; body = body; links = w.next; next = next } = cc in
+    let k₂ = leb-true (d1.0 % 8) 4 (check_inv (leb (d1.0 % 8) 4) (refusal REFS p) u₂ x₂) in
+    let k₃ = byte-is b d1.1 d2 x₃ in
+    let k₄ = skip-past b d2.1 (hashes d1.0) body x₄ in
+    let k₆ = skip-fields-end b size (d1.0 % 8) w.1 next x₆ in
+    let k₇ = skip-past b body ((d2.0 + 1) / 2) q x₇ in
+    let low : d2.0 < 256 = omega (arith, small d1.1) in
+    let k₈ = bits_in_lem (eqb (d2.0 % 2) 1) body ((d2.0 + 1) / 2) (get_or b (q - 1) 0) len (omega arith) (λ o. let z = eqb-false (d2.0 % 2) 1 o in omega arith) x₈ in
+    let v : w ≡ (len, q) = cc in
+    let v₁ : w.0 ≡ len = ap (λ (x : ℕ × ℕ). x.0) v in
+    let v₂ : w.1 ≡ q = ap (λ (x : ℕ × ℕ). x.1) v in
+    let r : f ≡ record { exotic = d1.0 / 8 % 2; refs = d1.0 % 8; bits = w.0; body = body; links = w.1; next = next } = cc in
     rw r (record {
       flag = omega arith;
       few = omega arith;
       arity = k₂;
       start = omega arith;
-      hashes-end = omega (arith, hashes-le d1.it);
+      hashes-end = omega (arith, hashes-le d1.0);
       bytes = rw (v₁, v₂) (omega arith);
       data_end = omega arith;
       refs_end = k₆.0;

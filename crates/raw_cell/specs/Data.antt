@@ -1,10 +1,10 @@
 -- The data of a cell by place: the first bits of the bytes at its place, with the bits past them 0. Assumes nothing.
-use Rattle.std.specs.Prelude.{ℕ, suc, ◌+◌, ◌-◌, ◌*◌, ◌/◌, ◌%◌, ◌^◌, ◌≤◌, ◌<◌, ◌≡◌, Bool, List, [], ◌∷◌, length, take, drop, get_or, eqb}
+use Rattle.std.specs.Prelude.{ℕ, suc, ◌+◌, ◌-◌, ◌*◌, ◌/◌, ◌%◌, ◌^◌, ◌≤◌, ◌<◌, ◌≡◌, Bool, List, [], ◌∷◌, length, take, drop, get_or, eqb, Ok}
 use Rattle.std.proofs.Common.{not-suc-le-zero, sym, ap, ◌∙◌, arith, eqb-true, ne_eqb, length-drop, length-take-le, take-take, get_or-take, get_or-drop}
 use Rattle.std.proofs.Math.Path.{refl}
 use Rattle.std.proofs.Math.Bool.{true, false}
 use Rattle.std.proofs.lemmas.Bool.{eqb-false}
-use Rattle.scheme.specs.Res.{ok, then}
+use Rattle.scheme.specs.Res.{then}
 use Rattle.scheme.specs.Bits.{last_of, zeros, unmark, mask, cropped}
 use Rattle.scheme.specs.Bag.{bits}
 use Rattle.raw_cell.specs.Frame.{bits_in}
@@ -78,7 +78,7 @@ module _ (b : List ℕ) (p n : ℕ) (h : p + n ≤ length b) (small : (i : ℕ) 
       last_get (take n (drop p b)) (rw e s) ∙ rw (e, get_or-take n (drop p b) (n - 1) 0 i, get_or-drop p b (n - 1) 0, f)
 
   pub bits_at : (odd : Bool) → (odd ≡ true → 0 < n)
-      → bits odd p (take n (drop p b)) ≡ then (bits_in odd p n (get_or b (p + n - 1) 0)) λ len. ok (record { len = len; bytes = cropped len (drop p b) })
+      → bits odd p (take n (drop p b)) ≡ then (bits_in odd p n (get_or b (p + n - 1) 0)) λ len. Ok (record { len = len; bytes = cropped len (drop p b) })
   unfolding bits bits_in
   bits_at false s = rw (length-take-le n (drop p b) room, cropped-whole n (drop p b))
   bits_at true s = go (eqb (get_or b (p + n - 1) 0) 0) refl
@@ -87,7 +87,7 @@ module _ (b : List ℕ) (p n : ℕ) (h : p + n ≤ length b) (small : (i : ℕ) 
       some = s refl
 
       go : (z : Bool) → eqb (get_or b (p + n - 1) 0) 0 ≡ z
-          → bits true p (take n (drop p b)) ≡ then (bits_in true p n (get_or b (p + n - 1) 0)) λ len. ok (record { len = len; bytes = cropped len (drop p b) })
+          → bits true p (take n (drop p b)) ≡ then (bits_in true p n (get_or b (p + n - 1) 0)) λ len. Ok (record { len = len; bytes = cropped len (drop p b) })
       go true z = rw (last-at some, z)
       go false z =
           let l = last-at some in

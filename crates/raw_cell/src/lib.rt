@@ -6,11 +6,10 @@ ghost use Rattle.scheme.specs.Bits.{zeros};
 ghost use Rattle.scheme.specs.Bag.{hashes};
 ghost use Rattle.raw_cell.specs.Frame.{data_at, body_at, frame};
 ghost use Rattle.raw_cell.specs.Block.{block_at};
-ghost use Rattle.raw_cell.specs.Paper.{data_paper, paper_of};
 
-use bits::{Octet, Skip, read_byte, skip_bytes, skip_fields};
-use memory::{put_bytes, zero_bytes};
-use scheme::{MAX_REFS_COUNT, PADDING, REFS, Refusal};
+use bits::{read_byte, skip_bytes, skip_fields};
+use memory::put;
+use scheme::{MAX_REFS_COUNT, Reason, Refusal};
 
 // Bits of a byte.
 const BYTE_BITS: usize = 8;
@@ -18,7 +17,7 @@ const BYTE_BITS: usize = 8;
 const HASH_LEN: usize = 34;
 
 // A cell: its flag, how many references, how many bits, and the places of its data, of its references and behind it.
-#[derive(Drop)]
+#[derive(Clone, Copy, Debug, PartialEq, Eq)]
 pub struct RawCell {
     pub exotic: u8,
     pub refs: u8,
@@ -28,62 +27,28 @@ pub struct RawCell {
     pub next: usize,
 }
 
-#[derive(Drop)]
-pub enum RawCellAnswer {
-    Cell(RawCell),
-    Refused(Refusal),
-}
-
-// The bits of a cell's data, and the place behind it.
-#[derive(Drop)]
-pub enum DataAnswer {
-    Bits(usize, usize),
-    Refused(Refusal),
-}
-
-fn wide(x: u8) -> usize
-    ensures { result ≡ x }
-{
-    x as usize
-}
-
 // The zeros behind the last 1 bit of a byte.
 fn padding_bits(b: u8) -> usize
     ensures { result ≡ zeros 8 b }
 {
-    let mut x = b;
-    let mut k: usize = 0;
-    while k < BYTE_BITS {
-        if x % 2 == 1 {
-            return k;
-        }
-        x = x / 2;
-        k += 1;
-    }
-    k
+    b.trailing_zeros() as usize
 }
 
-// The data at `at`. With d2 odd its last byte ends in a 1 bit and zeros, which are no data.
-fn read_data(bytes: &[u8], at: usize, d2: u8) -> DataAnswer
-    ensures { data_paper result ≡ data_at bytes.now at d2 }
+// The bits of the data at `at`, and the place behind it. With d2 odd its last byte ends in a 1 bit and zeros, which are no data.
+#[tactic(auto, unfolding(crate::specs::Frame::data_at, crate::specs::Frame::bits_in))]
+fn read_data(bytes: &[u8], at: usize, d2: u8) -> Result<(usize, usize), Refusal>
+    ensures { result ≡ data_at bytes.now at d2 }
 {
-    let n = (wide(d2) + 1) / 2;
-    match skip_bytes(bytes, at, n) {
-        Skip::Refused(r) => DataAnswer::Refused(r),
-        Skip::Past(next) => {
-            if d2 % 2 != 1 {
-                return DataAnswer::Bits(BYTE_BITS * n, next);
-            }
-            let last = bytes[next - 1];
-            if last == 0 {
-                return DataAnswer::Refused(Refusal {
-                    number: PADDING,
-                    place: at,
-                });
-            }
-            DataAnswer::Bits(BYTE_BITS * n - 1 - padding_bits(last), next)
-        }
+    let n = (usize::from(d2) + 1) / 2;
+    let next = skip_bytes(bytes, at, n)?;
+    if d2 % 2 != 1 {
+        return Ok((BYTE_BITS * n, next));
     }
+    let last = bytes[next - 1];
+    if last == 0 {
+        return Err(Reason::Padding.at(at));
+    }
+    Ok((BYTE_BITS * n - 1 - padding_bits(last), next))
 }
 
 // The bytes of hashes that d1 says.
@@ -94,51 +59,38 @@ fn hash_bytes(d1: u8) -> usize
         return 0;
     }
     let ones = d1 / 32 % 2 + d1 / 64 % 2 + d1 / 128 % 2;
-    HASH_LEN * (wide(ones) + 1)
+    HASH_LEN * (usize::from(ones) + 1)
 }
 
 // What follows d1 and d2: hashes, data, references.
-fn read_body(bytes: &[u8], size: usize, d1: u8, d2: u8, at: usize) -> RawCellAnswer
-    ensures { paper_of result ≡ body_at bytes.now size d1 d2 at }
+#[tactic(auto, unfolding(crate::specs::Frame::body_at))]
+fn read_body(bytes: &[u8], size: usize, d1: u8, d2: u8, at: usize) -> Result<RawCell, Refusal>
+    ensures { result ≡ body_at bytes.now size d1 d2 at }
 {
-    match skip_bytes(bytes, at, hash_bytes(d1)) {
-        Skip::Refused(r) => RawCellAnswer::Refused(r),
-        Skip::Past(body) => match read_data(bytes, body, d2) {
-            DataAnswer::Refused(r) => RawCellAnswer::Refused(r),
-            DataAnswer::Bits(bits, links) => match skip_fields(bytes, links, size, wide(d1 % 8)) {
-                Skip::Refused(r) => RawCellAnswer::Refused(r),
-                Skip::Past(next) => RawCellAnswer::Cell(RawCell {
-                    exotic: d1 / 8 % 2,
-                    refs: d1 % 8,
-                    bits,
-                    body,
-                    links,
-                    next,
-                }),
-            },
-        },
-    }
+    let body = skip_bytes(bytes, at, hash_bytes(d1))?;
+    let (bits, links) = read_data(bytes, body, d2)?;
+    let next = skip_fields(bytes, links, size, usize::from(d1 % 8))?;
+    Ok(RawCell {
+        exotic: d1 / 8 % 2,
+        refs: d1 % 8,
+        bits,
+        body,
+        links,
+        next,
+    })
 }
 
 // The cell at `at`, in a bag whose references take `size` bytes.
-pub fn raw_cell(bytes: &[u8], at: usize, size: usize) -> RawCellAnswer
-    ensures { paper_of result ≡ frame bytes.now size at }
+#[tactic(auto, unfolding(crate::specs::Frame::frame))]
+pub fn raw_cell(bytes: &[u8], at: usize, size: usize) -> Result<RawCell, Refusal>
+    ensures { result ≡ frame bytes.now size at }
 {
-    match read_byte(bytes, at) {
-        Octet::Refused(r) => RawCellAnswer::Refused(r),
-        Octet::Byte(d1, p) => {
-            if wide(d1 % 8) > MAX_REFS_COUNT {
-                return RawCellAnswer::Refused(Refusal {
-                    number: REFS,
-                    place: at,
-                });
-            }
-            match read_byte(bytes, p) {
-                Octet::Refused(r) => RawCellAnswer::Refused(r),
-                Octet::Byte(d2, q) => read_body(bytes, size, d1, d2, q),
-            }
-        }
+    let (d1, p) = read_byte(bytes, at)?;
+    if usize::from(d1 % 8) > MAX_REFS_COUNT {
+        return Err(Reason::Refs.at(at));
     }
+    let (d2, q) = read_byte(bytes, p)?;
+    read_body(bytes, size, d1, d2, q)
 }
 
 // The first r bits of a byte, and 0 behind them.
@@ -146,7 +98,7 @@ fn first_bits(b: u8, r: usize) -> u8
     requires { (1 ≤ r) × (r ≤ 7) }
     ensures { result ≡ b / 2 ^ (8 - r) * 2 ^ (8 - r) }
 {
-    let unit: u8 = 128 >> (r - 1);
+    let unit: u8 = 1 << (BYTE_BITS - r);
     b / unit * unit
 }
 
@@ -157,13 +109,12 @@ pub fn copy_data(bytes: &[u8], at: usize, bits: usize, out: &mut [u8])
     requires out_len { length out.old ≡ 128 }
     ensures { out.new ≡ block_at bytes.now at bits }
 {
-    zero_bytes(out);
+    out.fill(0);
     let end = at + (bits + 7) / BYTE_BITS;
-    put_bytes(&bytes[at..end], out, 0);
+    put(&bytes[at..end], out, 0);
     let r = bits % BYTE_BITS;
-    if r == 0 {
-        return;
+    if r > 0 {
+        let last = bits / BYTE_BITS;
+        out[last] = first_bits(out[last], r);
     }
-    let last = bits / BYTE_BITS;
-    out[last] = first_bits(out[last], r);
 }

@@ -1,11 +1,12 @@
 -- The cells that the scratch has places for, placed in a sound store: the start, one cell, and the ends. Assumes nothing.
-use Rattle.std.specs.Prelude.{◌≡◌, refl, ℕ, suc, ◌+◌, ◌-◌, ◌*◌, ◌≤◌, ◌<◌, true, get_or, take, drop, set, replicate}
+use Rattle.std.specs.Prelude.{◌≡◌, refl, ℕ, suc, ◌+◌, ◌-◌, ◌*◌, ◌≤◌, ◌<◌, true, get_or, take, drop, set, replicate, Ok, Err}
 use Rattle.std.proofs.Common.{sym, ap, ◌∙◌, subst, arith, length-append, length-take-le, get_or-take, take_at}
 use mathlib.Core.List.Memᴰ.{head as here}
 use mathlib.Core.List.Memᴰ.{tail as there}
 use mathlib.Core.List.{List, [], ◌∷◌, ◌++◌, Memᴰ as Mem}
 use Rattle.std.proofs.Math.ListN.{length, length-replicate}
 use Rattle.std.proofs.Math.Seq.{drop-length}
+use Rattle.scheme.specs.Res.{Res}
 use Rattle.scheme.specs.declared.Refusal.{Refusal}
 use Rattle.scheme.specs.Cells.{Cell, at, with}
 use Rattle.scheme.specs.Bits.{bytes_for, cropped}
@@ -27,14 +28,11 @@ use Rattle.raw_cell.specs.declared.RawCell.{RawCell}
 use Rattle.bag.specs.Places.{IsCell, cell_at, cells_at}
 use Rattle.bag.specs.Scan.{cell-is, cells-length as cells-many, cells-get}
 use Rattle.bag.specs.Frames.{FrameIs}
-use Rattle.store.specs.Paper.{added_paper, Places, TakesBack}
+use Rattle.store.specs.Paper.{Places, TakesBack}
 use Rattle.store.specs.Search.{cell_of}
-use Rattle.store.specs.declared.Added.{Added}
-use Rattle.store.specs.declared.Added.TheVariants.{Number, Refused}
 use Rattle.reader.specs.Filled.{numbers_of, numbered}
 use Rattle.reader.specs.Load.{load-extends, length-map, map_below}
 use Rattle.reader.specs.Placing.{Placed, lay-length, held_at, sound_now, cells_now, cap_now, refs-held, next, next_low, full}
-use Rattle.bag.specs.declared.Check.TheVariants.{Passed, Refused as NotPlaced}
 use Rattle.reader.specs.Paper.{Ready, Over, PlacesAll}
 
 -- bytes by index are bytes by membership
@@ -101,7 +99,7 @@ module _ (b : List ℕ) (small : (j : ℕ) → get_or b j 0 < 256) (size p : ℕ
   pub refs-inside : (cells : ℕ) (m : List ℕ) (n : ℕ) → ((r : ℕ) → Mem r (cell_at b size p).refs → (r < cells) × (get_or m (cells + r) 0 < n)) → (r : ℕ) → Mem r (numbers_at b size f.refs f.links) → r < cells
   refs-inside cells m n B r h = (subst (λ (c : Cell). (r : ℕ) → Mem r c.refs → (r < cells) × (get_or m (cells + r) 0 < n)) cell-here B r h).0
 
-pub places-as : (n : ℕ) (t d : List ℕ) (c e : Cell) (r : Added) (n' : ℕ) (t' d' : List ℕ) → c ≡ e → Places n t d c r n' t' d' → Places n t d e r n' t' d'
+pub places-as : (n : ℕ) (t d : List ℕ) (c e : Cell) (r : Res ℕ) (n' : ℕ) (t' d' : List ℕ) → c ≡ e → Places n t d c r n' t' d' → Places n t d e r n' t' d'
 places-as n t d c e r n' t' d' q P = subst (λ (x : Cell). Places n t d x r n' t' d') q P
 
 -- ---- all cells
@@ -196,19 +194,19 @@ module _ (b : List ℕ) (small : (j : ℕ) → get_or b j 0 < 256) (size cells n
     cell-refs-held = subst (λ (c : Cell). (r : ℕ) → Mem r c.refs → (r < cells) × (get_or m' (cells + r) 0 < n')) (sym cell-at)
         (refs-held cap cells s cs m many few wf F R.linked R.room i n' t' d' m' h P)
 
-    module _ (r : Added) (n'' : ℕ) (t'' d'' : List ℕ) (Q : Places n' t' d' (numbered m' cells (cell_at b size (get_or m' i 0))) r n'' t'' d'') where
+    module _ (r : Res ℕ) (n'' : ℕ) (t'' d'' : List ℕ) (Q : Places n' t' d' (numbered m' cells (cell_at b size (get_or m' i 0))) r n'' t'' d'') where
       Q' : Places n' t' d' (numbered m' cells (at cs i)) r n'' t'' d''
       Q' = places-as n' t' d' _ _ r n'' t'' d'' (ap (λ (c : Cell). numbered m' cells c) cell-at) Q
 
-      pub cell-placed : (k : ℕ) → r ≡ Number k → PlacedAt i n'' t'' d'' (set m' (cells + i) k)
-      cell-placed k e = next cap cells s cs m many few wf F R.linked R.room i n' t' d' m' h P n'' t'' d'' k (sym (ap added_paper e) ∙ Q'.answer) Q'.count Q'.table Q'.bytes
+      pub cell-placed : (k : ℕ) → r ≡ Ok k → PlacedAt i n'' t'' d'' (set m' (cells + i) k)
+      cell-placed k e = next cap cells s cs m many few wf F R.linked R.room i n' t' d' m' h P n'' t'' d'' k (sym e ∙ Q'.answer) Q'.count Q'.table Q'.bytes
 
-      pub number-low : (k : ℕ) → r ≡ Number k → k < 4096
-      number-low k e = next_low cap cells s cs m many few wf F R.linked R.room i n' t' d' m' h P n'' t'' d'' k (sym (ap added_paper e) ∙ Q'.answer)
+      pub number-low : (k : ℕ) → r ≡ Ok k → k < 4096
+      number-low k e = next_low cap cells s cs m many few wf F R.linked R.room i n' t' d' m' h P n'' t'' d'' k (sym e ∙ Q'.answer)
 
-      pub cell-over : (q : Refusal) → r ≡ Refused q → Over cap s cs q n'' t'' d''
+      pub cell-over : (q : Refusal) → r ≡ Err q → Over cap s cs q n'' t'' d''
       cell-over q e =
-          let x = full cap cells s cs m many few wf F R.linked R.room i n' t' d' m' h P n'' t'' d'' q (sym (ap added_paper e) ∙ Q'.answer) Q'.count Q'.table Q'.bytes in
+          let x = full cap cells s cs m many few wf F R.linked R.room i n' t' d' m' h P n'' t'' d'' q (sym e ∙ Q'.answer) Q'.count Q'.table Q'.bytes in
           let l = load s (suc i) (drop (suc i) cs) in
           let E = extends-front s l.store (load-extends s (suc i) (drop (suc i) cs)) in
           let c = cells_now cap cells s cs m many few wf F R.linked R.room (suc i) n' t' d' m' P in
@@ -222,20 +220,20 @@ module _ (b : List ℕ) (small : (j : ℕ) → get_or b j 0 < 256) (size cells n
             cap-is = cap_now cap cells s cs m many few wf F R.linked R.room (suc i) n' t' d' m' P;
           })
 
-      pub over-long : (q : Refusal) → r ≡ Refused q → (length t'' ≡ length t) × (length d'' ≡ length d)
+      pub over-long : (q : Refusal) → r ≡ Err q → (length t'' ≡ length t) × (length d'' ≡ length d)
       over-long q e =
-          let x = full cap cells s cs m many few wf F R.linked R.room i n' t' d' m' h P n'' t'' d'' q (sym (ap added_paper e) ∙ Q'.answer) Q'.count Q'.table Q'.bytes in
+          let x = full cap cells s cs m many few wf F R.linked R.room i n' t' d' m' h P n'' t'' d'' q (sym e ∙ Q'.answer) Q'.count Q'.table Q'.bytes in
           (ap length x.3 ∙ table-long (suc i) n' t' d' m' P, ap length x.4 ∙ bytes-long (suc i) n' t' d' m' P)
 
   -- the two ends
-  pub stops : (q : Refusal) (n' : ℕ) (t' d' m' : List ℕ) → length m' ≡ length m → Over cap s cs q n' t' d' → PlacesAll b size cells n t d m (NotPlaced q) n' t' d' m'
+  pub stops : (q : Refusal) (n' : ℕ) (t' d' m' : List ℕ) → length m' ≡ length m → Over cap s cs q n' t' d' → PlacesAll b size cells n t d m (Err q) n' t' d' m'
   stops q n' t' d' m' l O = record {
     long = l;
     all = λ e. let z : ◌≡◌ {A = ℕ} 0 1 = cc in absurd (omega arith);
     full = λ p e. let z : q ≡ p = cc in subst (λ (x : Refusal). Over cap s cs x n' t' d') z O;
   }
 
-  pub ends : (n' : ℕ) (t' d' m' : List ℕ) → PlacedAt 0 n' t' d' m' → PlacesAll b size cells n t d m Passed n' t' d' m'
+  pub ends : (n' : ℕ) (t' d' m' : List ℕ) → PlacedAt 0 n' t' d' m' → PlacesAll b size cells n t d m (Ok tt) n' t' d' m'
   ends n' t' d' m' P = record { long = P.long; all = λ e. P; full = λ p e. let z : ◌≡◌ {A = ℕ} 0 1 = cc in absurd (omega arith) }
 
 -- what was placed is taken back: the memory is as it was

@@ -15,15 +15,14 @@ ghost use Rattle.bag.specs.Paper.{Kept, bag_of};
 ghost use Rattle.reader.specs.Filled.{numbers_of, numbered};
 ghost use Rattle.reader.specs.Paper.{Ready, PlacesAll, stored, Stores, Reads};
 
-use bag::{BagAnswer, Check, OpenBag, open_bag};
-use bits::{Field, read_field};
-use memory::zero_numbers;
-use raw_cell::{RawCellAnswer, copy_data, raw_cell};
-use scheme::{DATA_LEN, Refusal, STORE};
-use store::{Added, is_sound, place, take_back};
+use bag::{OpenBag, open_bag};
+use bits::read_field;
+use raw_cell::{copy_data, raw_cell};
+use scheme::{DATA_LEN, MAX_REFS_COUNT, Reason, Refusal};
+use store::{Cells, Content, is_sound, place, take_back};
 
 // What a read answers: the bytes used, the bag's cells and roots, and the cells that are new in the store.
-#[derive(Drop)]
+#[derive(Clone, Copy, Debug, PartialEq, Eq)]
 pub struct Counts {
     pub used: usize,
     pub cells: usize,
@@ -31,103 +30,72 @@ pub struct Counts {
     pub added: usize,
 }
 
-#[derive(Drop)]
-pub enum ReadAnswer {
-    Done(Counts),
-    Refused(Refusal),
-}
-
 // The store numbers of the `count` bag places at `at`, written from the front; the scratch has them behind the places of the cells.
-fn fill_numbers(
-    reply: &[u8],
-    at: usize,
-    size: usize,
-    count: usize,
-    cells: usize,
-    scratch: &[u32],
-    out: &mut [u32],
-)
-    requires size_bound { (size ≤ 4) × (at + count * size ≤ length reply.now) }
-    requires cells_bound { (cells ≤ 4096) × (2 * cells ≤ length scratch.now) × (count ≤ length out.old) }
-    requires by_index { (r : ℕ) → Mem r (numbers_at reply.now size count at) → r < cells }
-    ensures { out.new ≡ puts out.old 0 (numbers_of scratch.now cells (numbers_at reply.now size count at)) }
+fn fill_numbers(reply: &[u8], o: OpenBag, at: usize, count: usize, scratch: &[u32], out: &mut [u32])
+    requires size_bound { (o.size ≤ 4) × (at + count * o.size ≤ length reply.now) }
+    requires cells_bound { (o.cells ≤ 4096) × (2 * o.cells ≤ length scratch.now) × (count ≤ length out.old) }
+    requires by_index { (r : ℕ) → Mem r (numbers_at reply.now o.size count at) → r < o.cells }
+    ensures { out.new ≡ puts out.old 0 (numbers_of scratch.now o.cells (numbers_at reply.now o.size count at)) }
 {
     let mut place = at;
-    let mut k: usize = 0;
-    while k < count {
-        let Field::Number(v, next) = read_field(reply, place, size) else {
-            return;
-        };
-        out[k] = scratch[cells + v as usize];
+    for k in 0..count {
+        let (v, next) = read_field(reply, place, o.size).unwrap();
+        out[k] = scratch[o.cells + v as usize];
         place = next;
-        k += 1;
     }
 }
 
 // Places the cell whose bytes start at `at`; the scratch has the store numbers of the cells that it refers to.
+// The store's count, table and bytes stay apart for the reason that stands above `store::place`.
 fn place_cell(
     reply: &[u8],
-    size: usize,
-    cells: usize,
+    o: OpenBag,
     at: u32,
     count: &mut usize,
     table: &mut [u32],
     bytes: &mut [u8],
     scratch: &[u32],
-) -> Added
+) -> Result<usize, Refusal>
     requires bytes_value { sound count.old table.old bytes.old ≡ true }
-    requires size_bound { (size ≤ 4) × (cells ≤ 4096) × (2 * cells ≤ length scratch.now) × IsCell reply.now size at }
-    requires by_index { (r : ℕ) → Mem r (cell_at reply.now size at).refs → (r < cells) × (get_or scratch.now (cells + r) 0 < count.old) }
-    ensures { Places count.old table.old bytes.old (numbered scratch.now cells (cell_at
-        reply.now size at)) result count.new table.new bytes.new }
+    requires size_bound { (o.size ≤ 4) × (o.cells ≤ 4096) × (2 * o.cells ≤ length scratch.now) × IsCell reply.now o.size at }
+    requires by_index { (r : ℕ) → Mem r (cell_at reply.now o.size at).refs → (r < o.cells) × (get_or scratch.now (o.cells + r) 0 < count.old) }
+    ensures { Places count.old table.old bytes.old (numbered scratch.now o.cells (cell_at
+        reply.now o.size at)) result count.new table.new bytes.new }
 {
-    match raw_cell(reply, at as usize, size) {
-        RawCellAnswer::Refused(r) => Added::Refused(r),
-        RawCellAnswer::Cell(f) => {
-            let mut block = [0u8; DATA_LEN];
-            copy_data(reply, f.body, f.bits, &mut block);
-            let n = f.refs as usize;
-            let mut refs = [0u32; 4];
-            fill_numbers(reply, f.links, size, n, cells, scratch, &mut refs);
-            place(
-                count,
-                table,
-                bytes,
-                f.exotic as u32,
-                f.bits,
-                &block,
-                &refs[..n],
-            )
-        }
-    }
+    let f = raw_cell(reply, at as usize, o.size)?;
+    let mut block = [0; DATA_LEN];
+    copy_data(reply, f.body, f.bits, &mut block);
+    let n = usize::from(f.refs);
+    let mut refs = [0; MAX_REFS_COUNT];
+    fill_numbers(reply, o, f.links, n, scratch, &mut refs);
+    let content = Content {
+        flag: u32::from(f.exotic),
+        bits: f.bits,
+        block: &block,
+        refs: &refs[..n],
+    };
+    place(count, table, bytes, content)
 }
 
 // Places all cells, the last one first; each one's number is left in the scratch, behind the places of the cells.
 fn place_cells(
     reply: &[u8],
-    size: usize,
-    cells: usize,
+    o: OpenBag,
     count: &mut usize,
     table: &mut [u32],
     bytes: &mut [u8],
     scratch: &mut [u32],
-) -> Check
-    requires { Ready reply.now size cells count.old table.old bytes.old scratch.old }
-    ensures { PlacesAll reply.now size cells count.old table.old bytes.old scratch.old result
+) -> Result<(), Refusal>
+    requires { Ready reply.now o.size o.cells count.old table.old bytes.old scratch.old }
+    ensures { PlacesAll reply.now o.size o.cells count.old table.old bytes.old scratch.old result
         count.new table.new bytes.new scratch.new }
 {
-    let mut i = cells;
-    while 0 < i {
-        let at = scratch[i - 1];
-        match place_cell(reply, size, cells, at, count, table, bytes, scratch) {
-            Added::Refused(r) => return Check::Refused(r),
-            Added::Number(n) => {
-                scratch[cells + (i - 1)] = n as u32;
-                i -= 1;
-            }
-        }
+    for i in (0..o.cells).rev() {
+        let at = scratch[i];
+        let n = place_cell(reply, o, at, count, table, bytes, scratch)?;
+        scratch[o.cells + i] = n as u32;
     }
-    Check::Passed
+    Ok(())
 }
 
 // Stores the cells of a bag that is opened, and names its roots. Where the store is too small, what was placed is taken back.
@@ -139,7 +107,7 @@ fn store_bag(
     bytes: &mut [u8],
     scratch: &mut [u32],
     roots: &mut [u32],
-) -> ReadAnswer
+) -> Result<Counts, Refusal>
     requires bytes_value { sound count.old table.old bytes.old ≡ true }
     requires kept { Kept reply.now (length roots.old) scratch.old o }
     requires whole { Whole (bag_of reply.now scratch.old o) }
@@ -149,21 +117,17 @@ fn store_bag(
         roots.new }
 {
     let old = *count;
-    match place_cells(reply, o.size, o.cells, count, table, bytes, scratch) {
-        Check::Refused(r) => {
-            take_back(count, table, bytes, old);
-            ReadAnswer::Refused(r)
-        }
-        Check::Passed => {
-            fill_numbers(reply, o.list, o.size, o.roots, o.cells, scratch, roots);
-            ReadAnswer::Done(Counts {
-                used: o.used,
-                cells: o.cells,
-                roots: o.roots,
-                added: *count - old,
-            })
-        }
+    if let Err(r) = place_cells(reply, o, count, table, bytes, scratch) {
+        take_back(count, table, bytes, old);
+        return Err(r);
     }
+    fill_numbers(reply, o, o.list, o.roots, scratch, roots);
+    Ok(Counts {
+        used: o.used,
+        cells: o.cells,
+        roots: o.roots,
+        added: *count - old,
+    })
 }
 
 // A read, with the places of the cells left in the scratch.
@@ -175,22 +139,22 @@ fn read_in(
     bytes: &mut [u8],
     scratch: &mut [u32],
     roots: &mut [u32],
-) -> ReadAnswer
+) -> Result<Counts, Refusal>
     ensures { Stores count.old table.old bytes.old scratch.old roots.old (then (held
         count.old table.old bytes.old) λ s. read whole (length scratch.old) (length
         roots.old) (capacity table.old) s reply.now) result count.new table.new bytes.new
         scratch.new roots.new }
 {
-    if !is_sound(*count, table, bytes) {
-        return ReadAnswer::Refused(Refusal {
-            number: STORE,
-            place: 0,
-        });
+    let store = Cells {
+        count: *count,
+        table,
+        bytes,
+    };
+    if !is_sound(store) {
+        return Err(Reason::Store.at(0));
     }
-    match open_bag(reply, whole, roots.len(), scratch) {
-        BagAnswer::Refused(r) => ReadAnswer::Refused(r),
-        BagAnswer::Open(o) => store_bag(reply, o, count, table, bytes, scratch, roots),
-    }
+    let o = open_bag(reply, whole, roots.len(), scratch)?;
+    store_bag(reply, o, count, table, bytes, scratch, roots)
 }
 
 // A read after which the scratch is all 0.
@@ -202,16 +166,16 @@ fn read_bag(
     bytes: &mut [u8],
     scratch: &mut [u32],
     roots: &mut [u32],
-) -> ReadAnswer
+) -> Result<Counts, Refusal>
     ensures { Reads whole count.old table.old bytes.old scratch.old roots.old
         reply.now result count.new table.new bytes.new scratch.new roots.new }
 {
     let answer = read_in(reply, whole, count, table, bytes, scratch, roots);
-    zero_numbers(scratch);
+    scratch.fill(0);
     answer
 }
 
-// Reads the bag that the reply begins with; bytes may follow it.
+// Reads the bag that the reply begins with; bytes may follow it. The two readings have the names that docs/RULES.md gives them.
 pub fn deserialize(
     reply: &[u8],
     count: &mut usize,
@@ -219,7 +183,7 @@ pub fn deserialize(
     bytes: &mut [u8],
     scratch: &mut [u32],
     roots: &mut [u32],
-) -> ReadAnswer
+) -> Result<Counts, Refusal>
     ensures { Reads false count.old table.old bytes.old scratch.old roots.old
         reply.now result count.new table.new bytes.new scratch.new roots.new }
 {
@@ -234,7 +198,7 @@ pub fn unpack_fully(
     bytes: &mut [u8],
     scratch: &mut [u32],
     roots: &mut [u32],
-) -> ReadAnswer
+) -> Result<Counts, Refusal>
     ensures { Reads true count.old table.old bytes.old scratch.old roots.old
         reply.now result count.new table.new bytes.new scratch.new roots.new }
 {

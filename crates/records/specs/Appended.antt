@@ -1,6 +1,6 @@
 -- A record that is appended and then copied to the flat table is the store's next row: stated of what `append_record` and `import_records` promise.
 -- Assumes nothing.
-use Rattle.std.specs.Prelude.{ℕ, ◌+◌, ◌*◌, ◌/◌, ◌<◌, ◌≤◌, ◌≡◌, refl, List, [], ◌∷◌, ◌++◌, ltb, length, get_or, take, drop, set}
+use Rattle.std.specs.Prelude.{ℕ, ◌+◌, ◌*◌, ◌/◌, ◌<◌, ◌≤◌, ◌≡◌, refl, List, [], ◌∷◌, ◌++◌, ltb, length, get_or, take, drop, set, Ok}
 use Rattle.std.proofs.Common.{add-one, arith, sym, ap, ◌∙◌, append_assoc, length-set, take-append-drop, get_or-set_same, get_or-set_other, length-take-le, take_at, drop_at}
 use Rattle.scheme.specs.Bits.{bytes_for}
 use Rattle.scheme.specs.Cells.{Cell}
@@ -10,10 +10,9 @@ use Rattle.laws.specs.Records.{SoundMemory}
 use Rattle.laws.specs.RoundLaws.{cell-back}
 use Rattle.laws.specs.Lay.{lay-table-put}
 use Rattle.records.specs.declared.CellRecord.{CellRecord}
-use Rattle.records.specs.declared.RecordAdded.TheVariants as added
 use Rattle.records.specs.Record.{blank, record_of, put_flat, room_for, export_recs, import_recs}
 use Rattle.records.specs.Laws.{room-all, length_export, length_import}
-use Rattle.records.specs.Answers.{added_paper, added_of, added-held}
+use Rattle.records.specs.Answers.{added_of, added-held}
 use Rattle.records.specs.Cells.{record_cell, record_cell_lem, numbers, put_is, import_into, export_at}
 
 -- the record of a cell: flag, bit length, number of references, references, unused ones 0
@@ -21,11 +20,8 @@ abbrev pub record_for : Cell → CellRecord
 record_for c = record {
   exotic = c.exotic;
   len = c.len;
-  refs = length c.refs;
-  r0 = get_or c.refs 0 0;
-  r1 = get_or c.refs 1 0;
-  r2 = get_or c.refs 2 0;
-  r3 = get_or c.refs 3 0;
+  count = length c.refs;
+  refs = get_or c.refs 0 0 ∷ get_or c.refs 1 0 ∷ get_or c.refs 2 0 ∷ get_or c.refs 3 0 ∷ [];
 }
 
 -- it stands for the cell, whose data is at the front of its block
@@ -42,7 +38,7 @@ put-at zs n r h =
 -- a record r is appended behind the first count of the table ys: the answer is n, and ys' the table afterwards.
 -- Then the first count + 1 are copied to xs, which has room: the answer is m, and xs' the flat table afterwards
 module _ (ys : List CellRecord) (count : ℕ) (r : CellRecord) (n : ℕ) (ys' : List CellRecord) (xs : List ℕ) (m : ℕ) (xs' : List ℕ)
-    (appended : (added_paper (added.Number n) ≡ added_of (ltb count (length ys)) count) × (ys' ≡ set ys count r))
+    (appended : (Ok n ≡ added_of (ltb count (length ys)) count) × (ys' ≡ set ys count r))
     (copied : (m ≡ room_for (length xs) (length ys') (count + 1)) × (xs' ≡ import_recs ys' (room_for (length xs) (length ys') (count + 1)) xs))
     (room : 7 * (count + 1) ≤ length xs) where
   all-copied : room_for (length xs) (length ys') (count + 1) ≡ count + 1

@@ -7,12 +7,12 @@ use Rattle.scheme.specs.Bits.{bytes_for}
 use Rattle.scheme.specs.Cells.{Cell}
 use Rattle.scheme.specs.Memory.{cell_at}
 use Rattle.records.specs.declared.CellRecord.{CellRecord}
-use Rattle.records.specs.Record.{blank, record_of, put_flat, room_for, export_recs, import_recs}
+use Rattle.records.specs.Record.{blank, ref, record_of, put_flat, room_for, export_recs, import_recs}
 use Rattle.records.specs.Laws.{room-places, room-numbers, room-all, length_export}
 
 -- the cell of a record, whose data starts at the front of b
 abbrev pub record_cell : CellRecord → List ℕ → Cell
-record_cell r b = record { exotic = r.exotic; len = r.len; bytes = take (bytes_for r.len) b; refs = take r.refs (r.r0 ∷ r.r1 ∷ r.r2 ∷ r.r3 ∷ []) }
+record_cell r b = record { exotic = r.exotic; len = r.len; bytes = take (bytes_for r.len) b; refs = take r.count (ref r 0 ∷ ref r 1 ∷ ref r 2 ∷ ref r 3 ∷ []) }
 
 four : (m a b c d : ℕ) (x : List ℕ) → m ≤ 4 → take m (a ∷ b ∷ c ∷ d ∷ []) ≡ take m (a ∷ b ∷ c ∷ d ∷ x)
 four zero a b c d x h = refl
@@ -49,12 +49,8 @@ record_cell_lem t d i h few =
     ap (λ (p : ℕ). record_cell (record {
       exotic = get_or t p 0;
       len = get_or t (p + 1) 0;
-      refs = get_or t (p + 2) 0;
-      r0 = get_or t (p + 3) 0;
-      r1 = get_or t (p + 4) 0;
-      r2 = get_or t
-          (p + 5) 0;
-      r3 = get_or t (p + 6) 0;
+      count = get_or t (p + 2) 0;
+      refs = get_or t (p + 3) 0 ∷ get_or t (p + 4) 0 ∷ get_or t (p + 5) 0 ∷ get_or t (p + 6) 0 ∷ [];
     }) (drop (i * 128) d)) q
     ∙ ap (λ (l : List ℕ). record { exotic = get_or t (i * 7) 0; len = get_or t (i * 7 + 1) 0; bytes = take (bytes_for (get_or t (i * 7 + 1) 0)) (drop (i * 128) d); refs = l }) r
 
@@ -77,7 +73,7 @@ exported_cell t d k ys i h l w few = ap (λ (r : CellRecord). record_cell r (dro
 
 -- the seven numbers of a record, and where they stand in the flat table
 abbrev pub numbers : CellRecord → List ℕ
-numbers r = r.exotic ∷ r.len ∷ r.refs ∷ r.r0 ∷ r.r1 ∷ r.r2 ∷ r.r3 ∷ []
+numbers r = r.exotic ∷ r.len ∷ r.count ∷ ref r 0 ∷ ref r 1 ∷ ref r 2 ∷ ref r 3 ∷ []
 
 numbers_of_lem : (t : List ℕ) (n : ℕ) → 7 * n + 7 ≤ length t → take 7 (drop (7 * n) t) ≡ numbers (record_of t n)
 numbers_of_lem t n h =

@@ -1,12 +1,10 @@
 -- Two outcomes that keep a function's promise are equal: an instance of one law for each public function. Assumes nothing.
-use Rattle.std.specs.Prelude.{◌≡◌, Bool, ℕ, List, ltb, length, get_or, set}
+use Rattle.std.specs.Prelude.{◌≡◌, Bool, ℕ, List, min, ltb, length, get_or, set}
 use Rattle.scheme.specs.Res.{Res}
-use Rattle.laws.specs.OneAnswer.{one_answer, one-content, one-pair}
+use Rattle.laws.specs.OneAnswer.{one-content, one-pair}
 use Rattle.records.specs.declared.CellRecord.{CellRecord}
-use Rattle.records.specs.declared.RecordRead.{RecordRead}
-use Rattle.records.specs.declared.RecordAdded.{RecordAdded}
-use Rattle.records.specs.Record.{blank, lesser_of, room_for, export_recs, import_recs}
-use Rattle.records.specs.Answers.{read_of, added_of, read_paper, added_paper, read_inj, added_inj}
+use Rattle.records.specs.Record.{blank, room_for, export_recs, import_recs}
+use Rattle.records.specs.Answers.{read_of, added_of}
 
 -- the answer x, and what the lent table holds afterwards, y
 abbrev Both : {A B : Type 0} → A → B → A → B → Type 0
@@ -21,21 +19,21 @@ module _ (ys : List CellRecord) (n count : ℕ) (r : CellRecord) where
 
   -- what reading a record answers by the rules, and what appending one does
   abbrev reads : Res CellRecord
-  reads = read_of n (lesser_of count (length ys)) (get_or ys n blank)
+  reads = read_of n (min count (length ys)) (get_or ys n blank)
 
   abbrev adds : Res ℕ
   adds = added_of (ltb count (length ys)) count
 
-  pub one-read : (a b : RecordRead) → read_paper a ≡ reads → read_paper b ≡ reads → a ≡ b
-  one-read a b p q = one_answer read_paper read_inj a b p q
+  pub one-read : (a b : Res CellRecord) → a ≡ reads → b ≡ reads → a ≡ b
+  one-read a b p q = one-content p q
 
   pub one_store : (a b : Bool) (ys₁ ys₂ : List CellRecord) → Both (ltb n (length ys)) (set ys n r) a ys₁ → Both (ltb n (length ys)) (set ys n r) b ys₂
       → (a ≡ b) × (ys₁ ≡ ys₂)
   one_store a b ys₁ ys₂ p q = one-pair p q
 
-  pub one-append : (a b : RecordAdded) (ys₁ ys₂ : List CellRecord) → (added_paper a ≡ adds) × (ys₁ ≡ set ys count r)
-      → (added_paper b ≡ adds) × (ys₂ ≡ set ys count r) → (a ≡ b) × (ys₁ ≡ ys₂)
-  one-append a b ys₁ ys₂ p q = (one_answer added_paper added_inj a b p.0 q.0, one-content p.1 q.1)
+  pub one-append : (a b : Res ℕ) (ys₁ ys₂ : List CellRecord) → (a ≡ adds) × (ys₁ ≡ set ys count r)
+      → (b ≡ adds) × (ys₂ ≡ set ys count r) → (a ≡ b) × (ys₁ ≡ ys₂)
+  one-append a b ys₁ ys₂ p q = one-pair p q
 
 module _ (xs : List ℕ) (ys : List CellRecord) (n : ℕ) where
   abbrev room : ℕ

@@ -6,12 +6,12 @@
 
 ghost use Rattle.std.specs.Prelude.{◌≤◌};
 
-use bits::{Field, read_field};
+use bits::read_field;
 use builder::CellBuilder;
 use crc32c::crc32c;
-use memory::put_bytes;
-use reader::{ReadAnswer, deserialize, unpack_fully};
-use scheme::{DATA_LEN, MAX_CELLS, RECORD_LEN};
+use memory::put;
+use reader::{Counts, deserialize, unpack_fully};
+use scheme::{DATA_LEN, MAX_CELLS, RECORD_LEN, Refusal};
 use std::io;
 use std::io::{ErrorKind, Read, Write};
 use store::{add, clear};
@@ -35,63 +35,34 @@ const SCRATCH_FILL: u32 = 9;
 
 const ROOT_FILL: u32 = 7;
 
-fn least(x: usize, most: usize) -> usize
-    ensures { result ≤ most }
-{
-    if x < most { x } else { most }
-}
-
 // The number of n bytes at `at`, and `most` at most.
 fn number(head: &[u8], at: usize, n: usize, most: usize) -> usize
     ensures { result ≤ most }
 {
     match read_field(head, at, n) {
-        Field::Number(v, _) => least(v as usize, most),
-        Field::Refused(_) => 0,
-    }
-}
-
-fn fill(xs: &mut [u32], x: u32) {
-    let mut i = 0;
-    while i < xs.len() {
-        xs[i] = x;
-        i += 1;
+        Ok((v, _)) => most.min(v as usize),
+        Err(_) => 0,
     }
 }
 
 // A number as four bytes, the low one first: the place behind it.
 fn pack_number(out: &mut [u8], at: usize, x: u32) -> usize {
-    if out.len() < 4 {
-        return at;
-    }
-    if out.len() - 4 < at {
-        return at;
-    }
-    out[at] = (x % 256) as u8;
-    out[at + 1] = (x / 256 % 256) as u8;
-    out[at + 2] = (x / 65536 % 256) as u8;
-    out[at + 3] = (x / 16777216) as u8;
-    at + 4
+    pack_bytes(&x.to_le_bytes(), out, at)
 }
 
 fn pack_numbers(xs: &[u32], out: &mut [u8], at: usize) -> usize {
     let mut place = at;
-    let mut i = 0;
-    while i < xs.len() {
-        place = pack_number(out, place, xs[i]);
-        i += 1;
+    for x in xs {
+        place = pack_number(out, place, *x);
     }
     place
 }
 
 fn pack_bytes(xs: &[u8], out: &mut [u8], at: usize) -> usize {
-    if out.len() < at {
+    if out.len() < at || out.len() - at < xs.len() {
         return at;
     }
-    if out.len() - at < xs.len() {
-        return at;
-    }
-    put_bytes(xs, out, at)
+    put(xs, out, at)
 }
 
 // The checksum of all lent memory, which is packed into `all`.
@@ -100,7 +71,7 @@ fn memory_sum(table: &[u32], bytes: &[u8], scratch: &[u32], roots: &[u32], all: 
     let b = pack_bytes(bytes, all, a);
     let c = pack_numbers(scratch, all, b);
     let d = pack_numbers(roots, all, c);
-    let end = least(d, all.len());
+    let end = d.min(all.len());
     crc32c(&all[..end])
 }
 
@@ -113,54 +84,49 @@ fn cell_of(i: usize) -> CellBuilder {
 
 // Adds `held` cells.
 fn add_cells(count: &mut usize, table: &mut [u32], bytes: &mut [u8], held: usize) {
-    let mut i = 0;
-    while i < held {
-        add(count, table, bytes, cell_of(i));
-        i += 1;
+    for i in 0..held {
+        let _ = add(count, table, bytes, cell_of(i));
     }
 }
 
 // A store of `held` cells.
 fn prepare(count: &mut usize, table: &mut [u32], bytes: &mut [u8], held: usize) {
-    clear(count, table, bytes);
+    let _ = clear(count, table, bytes);
     add_cells(count, table, bytes, held);
 }
 
 fn print_roots<W: Write>(to: &mut W, roots: &[u32], n: usize) -> io::Result<()> {
-    let most = least(n, roots.len());
+    let most = n.min(roots.len());
     show::numbers(to, &roots[..most])
 }
 
 fn print_line<W: Write>(
     to: &mut W,
-    answer: ReadAnswer,
+    answer: Result<Counts, Refusal>,
     count: usize,
     roots: &[u32],
     sum: u32,
 ) -> io::Result<()> {
     match answer {
-        ReadAnswer::Done(c) => {
-            show::text(to, b"ok")?;
-            show::spaced(to, c.used)?;
-            show::spaced(to, c.cells)?;
-            show::spaced(to, c.roots)?;
-            show::spaced(to, c.added)?;
-            show::spaced(to, count)?;
-            print_roots(to, roots, c.roots)?;
+        Ok(counts) => {
+            let Counts {
+                used,
+                cells,
+                roots: listed,
+                added,
+            } = counts;
+            write!(to, "ok {used} {cells} {listed} {added} {count}")?;
+            print_roots(to, roots, listed)?;
         }
-        ReadAnswer::Refused(r) => {
-            show::refused(to, r)?;
-            show::spaced(to, count)?;
-        }
+        Err(r) => write!(to, "{r} {count}")?,
     }
-    show::spaced(to, sum as usize)?;
-    show::end(to)
+    writeln!(to, " {sum}")
 }
 
 // The line of a case.
 fn report<W: Write>(
     to: &mut W,
-    answer: ReadAnswer,
+    answer: Result<Counts, Refusal>,
     count: usize,
     table: &[u32],
     bytes: &[u8],
@@ -181,9 +147,9 @@ fn read_case(
     bytes: &mut [u8],
     scratch: &mut [u32],
     roots: &mut [u32],
-) -> ReadAnswer {
-    fill(scratch, SCRATCH_FILL);
-    fill(roots, ROOT_FILL);
+) -> Result<Counts, Refusal> {
+    scratch.fill(SCRATCH_FILL);
+    roots.fill(ROOT_FILL);
     if whole {
         return unpack_fully(reply, count, table, bytes, scratch, roots);
     }
@@ -212,13 +178,8 @@ fn run_case<W: Write>(
 fn read_whole<R: Read>(from: &mut R, room: &mut [u8]) -> io::Result<bool> {
     match from.read_exact(room) {
         Ok(()) => Ok(true),
-        Err(e) => {
-            if e.kind() == ErrorKind::UnexpectedEof {
-                Ok(false)
-            } else {
-                Err(e)
-            }
-        }
+        Err(e) if e.kind() == ErrorKind::UnexpectedEof => Ok(false),
+        Err(e) => Err(e),
     }
 }
 
@@ -246,8 +207,8 @@ fn next_case<R: Read, W: Write>(
     if !read_whole(from, &mut reply[..len])? {
         return Ok(false);
     }
-    let rows = least(records * RECORD_LEN, table.len());
-    let blocks = least(records * DATA_LEN, bytes.len());
+    let rows = table.len().min(records * RECORD_LEN);
+    let blocks = bytes.len().min(records * DATA_LEN);
     run_case(
         to,
         whole,
@@ -262,7 +223,7 @@ fn next_case<R: Read, W: Write>(
     Ok(true)
 }
 
-// All cases. Nothing says that the input ends, so the turns are counted down from a number that no run uses up.
+// All cases. Nothing says that the input ends, so there is a number of turns, which no run uses up.
 fn run_cases<R: Read, W: Write>(
     from: &mut R,
     to: &mut W,
@@ -273,9 +234,10 @@ fn run_cases<R: Read, W: Write>(
     roots: &mut [u32],
     all: &mut [u8],
 ) -> io::Result<()> {
-    let mut turns = u64::MAX;
-    while turns > 0 && next_case(from, to, reply, table, bytes, scratch, roots, all)? {
-        turns -= 1;
+    for _ in 0..u64::MAX {
+        if !next_case(from, to, reply, table, bytes, scratch, roots, all)? {
+            break;
+        }
     }
     Ok(())
 }

@@ -1,4 +1,5 @@
 -- The lines of a report: their lengths, and that they are written piece after piece. Assumes nothing.
+use Rattle.std.specs.Prelude.{Ok, Err}
 use mathlib.Core.Path.{◌≡◌, refl, sym, ap, ◌∙◌}
 use mathlib.Core.List.{List, [], ◌∷◌, ◌++◌, append_assoc, append-nil}
 use mathlib.Core.Bool.{true}
@@ -11,7 +12,8 @@ use lib.ListN.{length, take, drop, get_or, length-append}
 use lib.Seq.{take_at, take-suc}
 use Rattle.scheme.specs.declared.Refusal.{Refusal}
 use borrow.Author.Tests.{lt-leb, le-leb}
-use Rattle.scheme.specs.Res.{Res, bad, ok}
+use Rattle.scheme.specs.Refusals.{reason_number}
+use Rattle.scheme.specs.Res.{Res, mapped}
 use Rattle.scheme.specs.Cells.{Cell}
 use Rattle.scheme.specs.Memory.{sound, cells_of}
 use Rattle.scheme.specs.Text.{digits, Page, page}
@@ -20,9 +22,7 @@ use Rattle.scheme.specs.Program.{spaced, refused_line, page_line, root_lines}
 use Rattle.laws.specs.Lent.{lent-cells}
 use Rattle.laws.specs.Puts.{puts, puts_then, puts-start}
 use Rattle.text.specs.declared.Printed.{Printed as Out}
-use Rattle.text.specs.declared.Text.{Text}
-use Rattle.text.specs.declared.Text.TheVariants.{Printed as Done, Refused as Left}
-use Rattle.text.specs.Paper.{paper_of, Prints}
+use Rattle.text.specs.Paper.{printed_of, Prints}
 use Rattle.report.specs.Lines.{ok_line}
 use Rattle.report.specs.Paper.{Tells}
 
@@ -35,8 +35,8 @@ spaced-length n rest = let e = length-append (digits 20 n) rest in omega arith
 spaced-append : (n : ℕ) (rest : List ℕ) → spaced n rest ≡ spaced n [] ++ rest
 spaced-append n rest = ap (λ (l : List ℕ). 32 ∷ l) (ap (λ (l : List ℕ). l ++ rest) (sym (append-nil (digits 20 n))))
 
-pub refused-length : (r : Refusal) → length (refused_line r) ≡ length (digits 20 r.number) + length (digits 20 r.place) + 10
-refused-length r = omega (arith, spaced-length r.number (spaced r.place (10 ∷ [])), spaced-length r.place (10 ∷ []))
+pub refused-length : (r : Refusal) → length (refused_line r) ≡ length (digits 20 (reason_number r.reason)) + length (digits 20 r.place) + 10
+refused-length r = omega (arith, spaced-length (reason_number r.reason) (spaced r.place (10 ∷ [])), spaced-length r.place (10 ∷ []))
 
 pub ok-length : (a b c : ℕ) → length (ok_line a b c) ≡ length (digits 20 a) + length (digits 20 b) + length (digits 20 c) + 6
 ok-length a b c =
@@ -49,23 +49,23 @@ spaced-put n at a l₀ l₁ l₂ e₁ ea e₂ = puts_then l₀ l₁ l₂ at a (3
 -- of `put_refused`
 pub refused-put : (r : Refusal) (at a b e : ℕ) (l₀ l₁ l₂ l₃ l₄ : List ℕ)
     → l₁ ≡ puts l₀ at (114 ∷ 101 ∷ 102 ∷ 117 ∷ 115 ∷ 101 ∷ 100 ∷ []) → a ≡ at + 7
-    → l₂ ≡ puts l₁ a (spaced r.number []) → b ≡ a + (1 + length (digits 20 r.number))
+    → l₂ ≡ puts l₁ a (spaced (reason_number r.reason) []) → b ≡ a + (1 + length (digits 20 (reason_number r.reason)))
     → l₃ ≡ puts l₂ b (spaced r.place []) → e ≡ b + (1 + length (digits 20 r.place))
     → l₄ ≡ puts l₃ e (10 ∷ [])
     → l₄ ≡ puts l₀ at (refused_line r)
 refused-put r at a b e l₀ l₁ l₂ l₃ l₄ e₁ ea e₂ eb e₃ ee e₄ =
     let w : List ℕ = 114 ∷ 101 ∷ 102 ∷ 117 ∷ 115 ∷ 101 ∷ 100 ∷ [] in
-    let x : List ℕ = spaced r.number [] in
+    let x : List ℕ = spaced (reason_number r.reason) [] in
     let y : List ℕ = spaced r.place [] in
     let q₂ = puts_then l₀ l₁ l₂ at a w x e₁ ea e₂ in
-    let b₃ : b ≡ at + length (w ++ x) = omega (arith, spaced-length r.number []) in
+    let b₃ : b ≡ at + length (w ++ x) = omega (arith, spaced-length (reason_number r.reason) []) in
     let q₃ = puts_then l₀ l₂ l₃ at b (w ++ x) y q₂ b₃ e₃ in
     let e₅ : e ≡ at + length (w ++ x ++ y) = omega (arith, length-append (w ++ x) y, b₃, spaced-length r.place []) in
     let q₄ = puts_then l₀ l₃ l₄ at e (w ++ x ++ y) (10 ∷ []) q₃ e₅ e₄ in
     let f : (w ++ x ++ y) ++ 10 ∷ [] ≡ refused_line r =
     append_assoc (w ++ x) y (10 ∷ []) ∙ append_assoc w x (y ++ 10 ∷ [])
     ∙ ap (λ (l : List ℕ). w ++ (x ++ l)) (sym (spaced-append r.place (10 ∷ [])))
-    ∙ ap (λ (l : List ℕ). w ++ l) (sym (spaced-append r.number (spaced r.place (10 ∷ [])))) in
+    ∙ ap (λ (l : List ℕ). w ++ l) (sym (spaced-append (reason_number r.reason) (spaced r.place (10 ∷ [])))) in
     q₄ ∙ ap (puts l₀ at) f
 
 -- of `put_ok`
@@ -104,13 +104,13 @@ pub record Line (p : Res Page) (w : ℕ) (o' : List ℕ) : Type 0 where
   pub part : length (take w o') ≡ w
   pub long : length (page_line p) ≡ w + 1
 
-refused-page : (s o : List ℕ) (p : Res Page) (r : Refusal) → bad r ≡ (print_out s o p).answer → page_line p ≡ refused_line r
-refused-page s o (bad q) r e = let z : r ≡ q = cc in rw z
-refused-page s o (ok q) r e = let z : ◌≡◌ {A = ℕ} 0 1 = cc in absurd (omega arith)
+refused-page : (s o : List ℕ) (p : Res Page) (r : Refusal) → Err r ≡ (print_out s o p).answer → page_line p ≡ refused_line r
+refused-page s o (Err q) r e = let z : r ≡ q = cc in rw z
+refused-page s o (Ok q) r e = let z : ◌≡◌ {A = ℕ} 0 1 = cc in absurd (omega arith)
 
-printed-page : (s o : List ℕ) (p : Res Page) (x : Printed) (o' : List ℕ) → ok x ≡ (print_out s o p).answer → o' ≡ (print_out s o p).out → Line p x.written o'
-printed-page s o (bad q) x o' e f = let z : ◌≡◌ {A = ℕ} 0 1 = cc in absurd (omega arith)
-printed-page s o (ok q) x o' e f =
+printed-page : (s o : List ℕ) (p : Res Page) (x : Printed) (o' : List ℕ) → Ok x ≡ (print_out s o p).answer → o' ≡ (print_out s o p).out → Line p x.written o'
+printed-page s o (Err q) x o' e f = let z : ◌≡◌ {A = ℕ} 0 1 = cc in absurd (omega arith)
+printed-page s o (Ok q) x o' e f =
     let z : x ≡ record { written = length q.text; cells = q.cells } = cc in
     let w : x.written ≡ length q.text = ap (λ (y : Printed). y.written) z in
     let front : take (length q.text) o' ≡ q.text = rw f (take_at q.text (drop (length q.text) o) (length q.text) refl) in
@@ -122,10 +122,10 @@ printed-page s o (ok q) x o' e f =
     }
 
 page-scratch : (s o : List ℕ) (p : Res Page) → (print_out s o p).scratch ≡ zeroed s
-page-scratch s o (bad q) = refl
-page-scratch s o (ok q) = refl
+page-scratch s o (Err q) = refl
+page-scratch s o (Ok q) = refl
 
-module _ (n : ℕ) (t d : List ℕ) (i budget : ℕ) (s o : List ℕ) (H : (sound n t d ≡ true) × (i < n)) (L : (n ≤ length s) × (length o ≡ 8192)) (r : Text) (s' o' : List ℕ)
+module _ (n : ℕ) (t d : List ℕ) (i budget : ℕ) (s o : List ℕ) (H : (sound n t d ≡ true) × (i < n)) (L : (n ≤ length s) × (length o ≡ 8192)) (r : Res Out) (s' o' : List ℕ)
     (P : Prints n t d i budget s o r s' o') where
   abbrev said : Res Page
   said = page (cells_of n t d) i budget 8192
@@ -138,12 +138,12 @@ module _ (n : ℕ) (t d : List ℕ) (i budget : ℕ) (s o : List ℕ) (H : (soun
   pub line_clean : s' ≡ zeroed s
   line_clean = P.scratch ∙ ap (λ (w : WriteOut Printed). w.scratch) as-page ∙ page-scratch s o said
 
-  pub line_refused : (q : Refusal) → r ≡ Left q → page_line said ≡ refused_line q
-  line_refused q g = refused-page s o said q (sym (ap paper_of g) ∙ P.answer ∙ ap (λ (w : WriteOut Printed). w.answer) as-page)
+  pub line_refused : (q : Refusal) → r ≡ Err q → page_line said ≡ refused_line q
+  line_refused q g = refused-page s o said q (sym (ap (mapped printed_of) g) ∙ P.answer ∙ ap (λ (w : WriteOut Printed). w.answer) as-page)
 
-  pub line-printed : (x : Out) → r ≡ Done x → Line said x.written o'
+  pub line-printed : (x : Out) → r ≡ Ok x → Line said x.written o'
   line-printed x g =
-      printed-page s o said (record { written = x.written; cells = x.cells }) o' (sym (ap paper_of g) ∙ P.answer ∙ ap (λ (w : WriteOut Printed). w.answer) as-page)
+      printed-page s o said (record { written = x.written; cells = x.cells }) o' (sym (ap (mapped printed_of) g) ∙ P.answer ∙ ap (λ (w : WriteOut Printed). w.answer) as-page)
       (P.out ∙ ap (λ (w : WriteOut Printed). w.out) as-page)
 
 -- ---- all roots' lines

@@ -1,4 +1,5 @@
 -- From the outcomes of clearing and of reading to what a report tells. Assumes nothing.
+use Rattle.std.specs.Prelude.{Ok, Err}
 use mathlib.Core.Path.{◌≡◌, refl, sym, ap, ◌∙◌, subst}
 use mathlib.Core.Logic.{◌⊎◌, inl, inr}
 use mathlib.Core.Bool.{Bool, true, false}
@@ -11,7 +12,7 @@ use lib.Seq.{take_at}
 use borrow.Author.Tests.{lt-leb, le-leb}
 use Rattle.scheme.specs.Refusals.{STORE}
 use Rattle.scheme.specs.declared.Refusal.{Refusal}
-use Rattle.scheme.specs.Res.{Res, bad, ok, then, check, refusal}
+use Rattle.scheme.specs.Res.{Res, then, check, mapped, refusal}
 use Rattle.scheme.specs.Cells.{Cell, find, insert}
 use Rattle.scheme.specs.Memory.{capacity, sized, sound, held, cells_of, rows, lay_table, lay_bytes}
 use Rattle.scheme.specs.Bag.{Counts as Totals, Got, link, load, read}
@@ -28,13 +29,10 @@ use Rattle.laws.specs.Lay.{wf-nil, sound-lay}
 use Rattle.theorems.specs.Grammar.{cell_of, bag_of}
 use Rattle.theorems.proofs.Accepts.{grammar}
 use Rattle.theorems.proofs.Meaning.{read-means}
-use Rattle.store.specs.declared.Cleared.{Cleared}
 use Rattle.store.specs.Paper.{Clears}
 use Rattle.reader.specs.declared.Counts.{Counts}
-use Rattle.reader.specs.declared.ReadAnswer.{ReadAnswer}
-use Rattle.reader.specs.declared.ReadAnswer.TheVariants.{Done, Refused as Left}
 use Rattle.reader.specs.Load.{load-held}
-use Rattle.reader.specs.Paper.{paper_of, totals_of, Reads}
+use Rattle.reader.specs.Paper.{totals_of, Reads}
 use Rattle.report.specs.Lines.{ok_line, lines_of, Roots}
 use Rattle.report.specs.Paper.{Tells, Reports}
 
@@ -72,7 +70,7 @@ record Fresh (scratch : ℕ) (g : Got) : Type 0 where
   below : (i : ℕ) → i < length g.names → get_or g.names i 0 < length g.store
   room : length g.store ≤ scratch
 
-fresh-got : (scratch room cap : ℕ) (b : List ℕ) (g : Got) → Small b → read true scratch room cap [] b ≡ ok g → Fresh scratch g
+fresh-got : (scratch room cap : ℕ) (b : List ℕ) (g : Got) → Small b → read true scratch room cap [] b ≡ Ok g → Fresh scratch g
 unfolding bag_of
 fresh-got scratch room cap b g S e =
     let A = read-inv true scratch room cap [] b g S e in
@@ -95,11 +93,11 @@ clear-capacity : (cap : ℕ) → capacity (lay_table cap []) ≡ cap
 unfolding lay_table rows
 clear-capacity cap = rw (length-replicate {A = ℕ} ((cap - 0) * 7) 0) (omega arith)
 
-clear-held : (cap : ℕ) → cap ≤ 4096 → held 0 (lay_table cap []) (lay_bytes cap []) ≡ ok []
+clear-held : (cap : ℕ) → cap ≤ 4096 → held 0 (lay_table cap []) (lay_bytes cap []) ≡ Ok []
 unfolding held cells_of
 clear-held cap few = rw (sound-lay cap [] wf-nil (omega arith) few)
 
-unsized_held : (n : ℕ) (t d : List ℕ) → sized t d ≡ false → held n t d ≡ bad (refusal STORE 0)
+unsized_held : (n : ℕ) (t d : List ℕ) → sized t d ≡ false → held n t d ≡ Err (refusal STORE 0)
 unfolding held sound
 unsized_held n t d e = rw e
 
@@ -127,16 +125,16 @@ module _ (n : ℕ) (t d s rs b : List ℕ) where
   fresh-reading = rw fresh-is
 
   -- the table of a store that is read into is as long as it was
-  fresh_ok : (g : Got) → fresh ≡ ok g → (capacity c.table ≡ capacity t) × (capacity t ≤ 4096) × (read true (length s) (length rs) (capacity t) [] b ≡ ok g)
+  fresh_ok : (g : Got) → fresh ≡ Ok g → (capacity c.table ≡ capacity t) × (capacity t ≤ 4096) × (read true (length s) (length rs) (capacity t) [] b ≡ Ok g)
   unfolding clearing afresh
   fresh_ok g e = go (sized t d) refl e
     where
-      go : (x : Bool) → sized t d ≡ x → then (check x (refusal STORE 0)) (λ _. read true (length s) (length rs) (capacity t) [] b) ≡ ok g
-          → (capacity (clear_out n t d (check x (refusal STORE 0))).table ≡ capacity t) × (capacity t ≤ 4096) × (read true (length s) (length rs) (capacity t) [] b ≡ ok g)
+      go : (x : Bool) → sized t d ≡ x → then (check x (refusal STORE 0)) (λ _. read true (length s) (length rs) (capacity t) [] b) ≡ Ok g
+          → (capacity (clear_out n t d (check x (refusal STORE 0))).table ≡ capacity t) × (capacity t ≤ 4096) × (read true (length s) (length rs) (capacity t) [] b ≡ Ok g)
       go true q e = (clear-capacity (capacity t), (sized-is t d q).few, e)
       go false q e = let z : ◌≡◌ {A = ℕ} 0 1 = cc in absurd (omega arith)
 
-  module _ (S : Small b) (a : Cleared) (n₁ : ℕ) (t₁ d₁ : List ℕ) (C : Clears n t d a n₁ t₁ d₁) (r : ReadAnswer) (n' : ℕ) (t' d' s' rs' : List ℕ)
+  module _ (S : Small b) (a : Res (Unit {0})) (n₁ : ℕ) (t₁ d₁ : List ℕ) (C : Clears n t d a n₁ t₁ d₁) (r : Res Counts) (n' : ℕ) (t' d' s' rs' : List ℕ)
       (R : Reads true n₁ t₁ d₁ s rs b r n' t' d' s' rs') where
     R₁ : Reads true c.count c.table c.bytes s rs b r n' t' d' s' rs'
     R₁ = rw (C.count, C.table, C.bytes) at R
@@ -149,13 +147,13 @@ module _ (n : ℕ) (t d s rs b : List ℕ) where
       pub lines : read_lines fresh ≡ refused_line q
       pub clean : s' ≡ zeroed s
 
-    refused-by : (x : Res Got) → fresh ≡ x → (q : Refusal) → bad q ≡ (out x).answer → s' ≡ (out x).scratch → Left-it q
-    refused-by (bad p) x q e es = let z : q ≡ p = cc in record { lines = rw (x, z); clean = es }
-    refused-by (ok g) x q e es = let z : ◌≡◌ {A = ℕ} 0 1 = cc in absurd (omega arith)
+    refused-by : (x : Res Got) → fresh ≡ x → (q : Refusal) → Err q ≡ (out x).answer → s' ≡ (out x).scratch → Left-it q
+    refused-by (Err p) x q e es = let z : q ≡ p = cc in record { lines = rw (x, z); clean = es }
+    refused-by (Ok g) x q e es = let z : ◌≡◌ {A = ℕ} 0 1 = cc in absurd (omega arith)
 
-    pub read-refused : (q : Refusal) → r ≡ Left q → Left-it q
+    pub read-refused : (q : Refusal) → r ≡ Err q → Left-it q
     read-refused q e =
-        refused-by fresh refl q (sym (ap paper_of e) ∙ R₁.answer ∙ ap (λ (o : ReadOut). o.answer) fresh-reading)
+        refused-by fresh refl q (sym (ap (mapped totals_of) e) ∙ R₁.answer ∙ ap (λ (o : ReadOut). o.answer) fresh-reading)
         (R₁.scratch ∙ ap (λ (o : ReadOut). o.scratch) fresh-reading)
 
     -- a bag that is read
@@ -164,7 +162,7 @@ module _ (n : ℕ) (t d s rs b : List ℕ) where
       pub lines : read_lines fresh ≡ ok_line k.used k.cells k.roots ++ lines_of n' t' d' rs' k.roots
       pub clean : s' ≡ zeroed s
 
-    module _ (g : Got) (x : fresh ≡ ok g) (k : Counts) (e : totals_of k ≡ g.counts) (en : n' ≡ length g.store) (et : t' ≡ lay_table (capacity c.table) g.store)
+    module _ (g : Got) (x : fresh ≡ Ok g) (k : Counts) (e : totals_of k ≡ g.counts) (en : n' ≡ length g.store) (et : t' ≡ lay_table (capacity c.table) g.store)
         (ed : d' ≡ lay_bytes (capacity c.table) g.store) (es : s' ≡ zeroed s) (er : rs' ≡ g.names ++ drop (length g.names) rs) where
       F : Fresh (length s) g
       F = fresh-got (length s) (length rs) (capacity t) b g S (fresh_ok g x).2
@@ -206,15 +204,15 @@ module _ (n : ℕ) (t d s rs b : List ℕ) where
         clean = es;
       }
 
-    done-by : (x : Res Got) → fresh ≡ x → (k : Counts) → ok (totals_of k) ≡ (out x).answer → n' ≡ (out x).count → t' ≡ (out x).table → d' ≡ (out x).bytes
+    done-by : (x : Res Got) → fresh ≡ x → (k : Counts) → Ok (totals_of k) ≡ (out x).answer → n' ≡ (out x).count → t' ≡ (out x).table → d' ≡ (out x).bytes
         → s' ≡ (out x).scratch → rs' ≡ (out x).roots → Got-it k
-    done-by (bad q) x k e en et ed es er = let z : ◌≡◌ {A = ℕ} 0 1 = cc in absurd (omega arith)
-    done-by (ok g) x k e en et ed es er = let q : totals_of k ≡ g.counts = cc in got g x k q en et ed es er
+    done-by (Err q) x k e en et ed es er = let z : ◌≡◌ {A = ℕ} 0 1 = cc in absurd (omega arith)
+    done-by (Ok g) x k e en et ed es er = let q : totals_of k ≡ g.counts = cc in got g x k q en et ed es er
 
-    pub read_done : (k : Counts) → r ≡ Done k → Got-it k
+    pub read_done : (k : Counts) → r ≡ Ok k → Got-it k
     read_done k e =
         let q = fresh-reading in
-        done-by fresh refl k (sym (ap paper_of e) ∙ R₁.answer ∙ ap (λ (o : ReadOut). o.answer) q) (R₁.count ∙ ap (λ (o : ReadOut). o.count) q)
+        done-by fresh refl k (sym (ap (mapped totals_of) e) ∙ R₁.answer ∙ ap (λ (o : ReadOut). o.answer) q) (R₁.count ∙ ap (λ (o : ReadOut). o.count) q)
         (R₁.table ∙ ap (λ (o : ReadOut). o.table) q) (R₁.bytes ∙ ap (λ (o : ReadOut). o.bytes) q) (R₁.scratch ∙ ap (λ (o : ReadOut). o.scratch) q)
         (R₁.roots ∙ ap (λ (o : ReadOut). o.roots) q)
 

@@ -10,11 +10,11 @@ ghost use Rattle.laws.specs.Puts.{puts};
 ghost use Rattle.report.specs.Lines.{ok_line, line_of, lines_of, Roots};
 ghost use Rattle.report.specs.Paper.{Tells, Reports};
 
-use memory::{entry, put_byte, put_bytes, zero_numbers};
-use reader::{ReadAnswer, unpack_fully};
+use memory::{Cells, put, put_byte};
+use reader::unpack_fully;
 use scheme::Refusal;
 use store::clear;
-use text::{Text, debug_text, put_decimal, width};
+use text::{debug_text, put_decimal, width};
 
 // The bytes of a reply at most.
 pub const MAX_INPUT: usize = 32768;
@@ -46,7 +46,7 @@ fn put_spaced(out: &mut [u8], at: usize, n: usize) -> usize
 fn refused_len(r: Refusal) -> usize
     ensures { (result ≡ length (refused_line r)) × (result ≤ 50) }
 {
-    width(r.number as usize) + width(r.place) + 10
+    width(r.reason.number() as usize) + width(r.place) + 10
 }
 
 // Writes `refused` number place.
@@ -55,8 +55,8 @@ fn put_refused(out: &mut [u8], at: usize, r: Refusal) -> usize
     ensures next { result ≡ at + length (refused_line r) }
     ensures put { out.new ≡ puts out.old at (refused_line r) }
 {
-    let a = put_bytes(b"refused", out, at);
-    let b = put_spaced(out, a, r.number as usize);
+    let a = put(b"refused", out, at);
+    let b = put_spaced(out, a, r.reason.number() as usize);
     let e = put_spaced(out, b, r.place);
     put_byte(out, e, b'\n')
 }
@@ -74,7 +74,7 @@ fn put_ok(out: &mut [u8], used: usize, cells: usize, roots: usize) -> usize
     ensures next { result ≡ length (ok_line used cells roots) }
     ensures put { out.new ≡ puts out.old 0 (ok_line used cells roots) }
 {
-    let a = put_bytes(b"ok", out, 0);
+    let a = put(b"ok", out, 0);
     let b = put_spaced(out, a, used);
     let d = put_spaced(out, b, cells);
     let e = put_spaced(out, d, roots);
@@ -82,86 +82,62 @@ fn put_ok(out: &mut [u8], used: usize, cells: usize, roots: usize) -> usize
 }
 
 // The length of a root's line.
-fn line_len(
-    count: usize,
-    table: &[u32],
-    bytes: &[u8],
-    root: usize,
-    scratch: &mut [u32],
-    page: &mut [u8],
-) -> usize
-    requires bytes_value { (sound count table.now bytes.now ≡ true) × (root < count) }
-    requires count_in_bounds { (count ≤ length scratch.old) × (length page.old ≡ 8192) }
-    ensures len { (result ≡ length (line_of count table.now bytes.now root)) × (result ≤ 8193) }
+fn line_len(store: Cells, root: usize, scratch: &mut [u32], page: &mut [u8]) -> usize
+    requires bytes_value { (sound store.count store.table.now store.bytes.now ≡ true) × (root < store.count) }
+    requires count_in_bounds { (store.count ≤ length scratch.old) × (length page.old ≡ 8192) }
+    ensures len { (result ≡ length (line_of store.entry.count store.entry.table.now store.entry.bytes.now root)) × (result ≤ 8193) }
     ensures clean { scratch.new ≡ zeroed scratch.old }
 {
-    let t = debug_text(count, table, bytes, root, BUDGET, scratch, page);
-    match t {
-        Text::Printed(p) => p.written + 1,
-        Text::Refused(r) => refused_len(r),
+    match debug_text(store, root, BUDGET, scratch, page) {
+        Ok(p) => p.written + 1,
+        Err(r) => refused_len(r),
     }
 }
 
 // Writes a root's line.
 fn put_line(
-    count: usize,
-    table: &[u32],
-    bytes: &[u8],
+    store: Cells,
     root: usize,
     scratch: &mut [u32],
     page: &mut [u8],
     out: &mut [u8],
     at: usize,
 ) -> usize
-    requires bytes_value { (sound count table.now bytes.now ≡ true) × (root < count) }
-    requires count_in_bounds { (count ≤ length scratch.old) × (length page.old ≡ 8192) }
-    requires root_in_bounds { at + length (line_of count table.now bytes.now root) ≤ length out.old }
-    ensures next { result ≡ at + length (line_of count table.now bytes.now root) }
-    ensures put { out.new ≡ puts out.old at (line_of count table.now bytes.now root) }
+    requires bytes_value { (sound store.count store.table.now store.bytes.now ≡ true) × (root < store.count) }
+    requires count_in_bounds { (store.count ≤ length scratch.old) × (length page.old ≡ 8192) }
+    requires root_in_bounds { at + length (line_of store.count store.table.now store.bytes.now root) ≤ length out.old }
+    ensures next { result ≡ at + length (line_of store.entry.count store.entry.table.now store.entry.bytes.now root) }
+    ensures put { out.new ≡ puts out.old at (line_of store.entry.count store.entry.table.now store.entry.bytes.now root) }
     ensures clean { scratch.new ≡ zeroed scratch.old }
 {
-    let t = debug_text(count, table, bytes, root, BUDGET, scratch, page);
-    match t {
-        Text::Printed(p) => {
+    match debug_text(store, root, BUDGET, scratch, page) {
+        Ok(p) => {
             let n = p.written;
-            let a = put_bytes(&page[..n], out, at);
+            let a = put(&page[..n], out, at);
             put_byte(out, a, b'\n')
         }
-        Text::Refused(r) => put_refused(out, at, r),
+        Err(r) => put_refused(out, at, r),
     }
 }
 
-// The length of the lines of the first k roots.
-fn lines_len(
-    count: usize,
-    table: &[u32],
-    bytes: &[u8],
-    roots: &[u32],
-    k: usize,
-    scratch: &mut [u32],
-    page: &mut [u8],
-) -> usize
-    requires roots { Roots count table.now bytes.now roots.now k scratch.old }
+// The length of the lines of the first k roots: they are gone through once more to write them, since a report that does not fit writes nothing.
+fn lines_len(store: Cells, roots: &[u32], k: usize, scratch: &mut [u32], page: &mut [u8]) -> usize
+    requires roots { Roots store.count store.table.now store.bytes.now roots.now k scratch.old }
     requires page_len { length page.old ≡ 8192 }
-    ensures len { result ≡ length (lines_of count table.now bytes.now roots.now k) }
+    ensures len { result ≡ length (lines_of store.entry.count store.entry.table.now store.entry.bytes.now roots.now k) }
     ensures few { result ≤ 8193 * 4096 }
     ensures clean { scratch.new ≡ scratch.old }
 {
-    let mut i = 0;
     let mut total = 0;
-    while i < k {
-        let root = entry(roots, i);
-        total += line_len(count, table, bytes, root, scratch, page);
-        i += 1;
+    for root in &roots[..k] {
+        total += line_len(store, *root as usize, scratch, page);
     }
     total
 }
 
 // Writes the lines of the first k roots.
 fn put_lines(
-    count: usize,
-    table: &[u32],
-    bytes: &[u8],
+    store: Cells,
     roots: &[u32],
     k: usize,
     scratch: &mut [u32],
@@ -169,19 +145,16 @@ fn put_lines(
     out: &mut [u8],
     at: usize,
 ) -> usize
-    requires roots { Roots count table.now bytes.now roots.now k scratch.old }
+    requires roots { Roots store.count store.table.now store.bytes.now roots.now k scratch.old }
     requires page_len { length page.old ≡ 8192 }
-    requires k_in_bounds { at + length (lines_of count table.now bytes.now roots.now k) ≤ length out.old }
-    ensures next { result ≡ at + length (lines_of count table.now bytes.now roots.now k) }
-    ensures put { out.new ≡ puts out.old at (lines_of count table.now bytes.now roots.now k) }
+    requires k_in_bounds { at + length (lines_of store.count store.table.now store.bytes.now roots.now k) ≤ length out.old }
+    ensures next { result ≡ at + length (lines_of store.entry.count store.entry.table.now store.entry.bytes.now roots.now k) }
+    ensures put { out.new ≡ puts out.old at (lines_of store.entry.count store.entry.table.now store.entry.bytes.now roots.now k) }
     ensures clean { scratch.new ≡ scratch.old }
 {
-    let mut i = 0;
     let mut to = at;
-    while i < k {
-        let root = entry(roots, i);
-        to = put_line(count, table, bytes, root, scratch, page, out, to);
-        i += 1;
+    for root in &roots[..k] {
+        to = put_line(store, *root as usize, scratch, page, out, to);
     }
     to
 }
@@ -193,7 +166,7 @@ fn tell_long(out: &mut [u8]) -> usize
     if out.len() < TOO_LONG_LEN {
         return TOO_LONG_LEN;
     }
-    put_bytes(b"too long\n", out, 0)
+    put(b"too long\n", out, 0)
 }
 
 // The report of a read that is refused.
@@ -212,30 +185,29 @@ fn tell_bag(
     used: usize,
     cells: usize,
     k: usize,
-    count: usize,
-    table: &[u32],
-    bytes: &[u8],
+    store: Cells,
     roots: &[u32],
     scratch: &mut [u32],
     out: &mut [u8],
 ) -> usize
-    requires { Roots count table.now bytes.now roots.now k scratch.old }
-    ensures told { Tells (ok_line used cells k ++ lines_of count table.now bytes.now roots.now k) out.old result
-        out.new }
+    requires { Roots store.count store.table.now store.bytes.now roots.now k scratch.old }
+    ensures told { Tells (ok_line used cells k ++ lines_of store.entry.count store.entry.table.now store.entry.bytes.now roots.now k)
+        out.old result out.new }
     ensures clean { scratch.new ≡ scratch.old }
 {
     let mut page = [0u8; PAGE_LEN];
     let first = ok_len(used, cells, k);
-    let len = first + lines_len(count, table, bytes, roots, k, scratch, &mut page);
+    let len = first + lines_len(store, roots, k, scratch, &mut page);
     if out.len() < len {
         return len;
     }
     let at = put_ok(out, used, cells, k);
-    put_lines(count, table, bytes, roots, k, scratch, &mut page, out, at)
+    put_lines(store, roots, k, scratch, &mut page, out, at)
 }
 
 // The report of a reply, which is read into the store once that is cleared: a line of numbers and a line for each root, or why there is none.
-// Answers its length, and writes it to the front of out if it fits there.
+// Answers its length, and writes it to the front of out if it fits there. The store's parts stay apart for the reason that stands above
+// `store::place`.
 pub fn report(
     reply: &[u8],
     count: &mut usize,
@@ -249,14 +221,20 @@ pub fn report(
         reply.now result count.new table.new bytes.new scratch.new roots.new out.new }
 {
     if MAX_INPUT < reply.len() {
-        zero_numbers(scratch);
+        scratch.fill(0);
         return tell_long(out);
     }
-    clear(count, table, bytes);
+    // A store that cannot be cleared is refused again by the read.
+    let _ = clear(count, table, bytes);
     match unpack_fully(reply, count, table, bytes, scratch, roots) {
-        ReadAnswer::Refused(r) => tell_refused(r, out),
-        ReadAnswer::Done(c) => tell_bag(
-            c.used, c.cells, c.roots, *count, table, bytes, roots, scratch, out,
-        ),
+        Err(r) => tell_refused(r, out),
+        Ok(c) => {
+            let store = Cells {
+                count: *count,
+                table,
+                bytes,
+            };
+            tell_bag(c.used, c.cells, c.roots, store, roots, scratch, out)
+        }
     }
 }

@@ -5,6 +5,7 @@ ghost use Rattle.std.specs.Prelude.{[], ◌∷◌, ◌++◌, codes, OnOk};
 ghost use Rattle.std.specs.Io.KnownBytes.{Appends};
 ghost use Rattle.std.specs.Fmt.{decimal};
 ghost use Rattle.std.specs.List.{flat_map};
+ghost use Rattle.scheme.specs.Refusals.{refused_text};
 ghost use Rattle.show.specs.Shown.{spaced, hex};
 
 use scheme::Refusal;
@@ -34,38 +35,25 @@ pub fn number<W: Write>(to: &mut W, n: usize) -> io::Result<()>
 pub fn spaced<W: Write>(to: &mut W, n: usize) -> io::Result<()>
     ensures { OnOk result (Appends (W.contents to.old) (W.contents to.new) (spaced n)) }
 {
-    text(to, b" ")?;
-    number(to, n)
-}
-
-fn entry<W: Write>(to: &mut W, x: u32) -> io::Result<()>
-    ensures { OnOk result (Appends (W.contents to.old) (W.contents to.new) (spaced x)) }
-{
-    spaced(to, x as usize)
+    write!(to, " {n}")
 }
 
 // Each number behind a space.
 pub fn numbers<W: Write>(to: &mut W, xs: &[u32]) -> io::Result<()>
     ensures { OnOk result (Appends (W.contents to.old) (W.contents to.new) (flat_map spaced xs.now)) }
 {
-    for i in 0..xs.len() {
-        entry(to, xs[i])?;
+    for x in xs {
+        write!(to, " {x}")?;
     }
     Ok(())
-}
-
-fn byte<W: Write>(to: &mut W, b: u8) -> io::Result<()>
-    ensures { OnOk result (Appends (W.contents to.old) (W.contents to.new) (hex 2 b)) }
-{
-    write!(to, "{b:02x}")
 }
 
 // Bytes in hexadecimal.
 pub fn bytes<W: Write>(to: &mut W, xs: &[u8]) -> io::Result<()>
     ensures { OnOk result (Appends (W.contents to.old) (W.contents to.new) (flat_map (hex 2) xs.now)) }
 {
-    for i in 0..xs.len() {
-        byte(to, xs[i])?;
+    for b in xs {
+        write!(to, "{b:02x}")?;
     }
     Ok(())
 }
@@ -79,9 +67,7 @@ pub fn word<W: Write>(to: &mut W, n: u32) -> io::Result<()>
 
 // `refused` number place.
 pub fn refused<W: Write>(to: &mut W, r: Refusal) -> io::Result<()>
-    ensures { OnOk result (Appends (W.contents to.old) (W.contents to.new) (codes "refused" ++ spaced r.number ++ spaced r.place)) }
+    ensures { OnOk result (Appends (W.contents to.old) (W.contents to.new) (refused_text r)) }
 {
-    text(to, b"refused")?;
-    spaced(to, r.number as usize)?;
-    spaced(to, r.place)
+    write!(to, "{r}")
 }

@@ -7,9 +7,11 @@ use native.Mathlib.Nat.{not-suc-le-zero, le_of_suc-le-suc, add-zero, add_assoc}
 use native.Mathlib.Numerals.{add-one}
 use native.Mathlib.Omega.{arith}
 use lib.ListN.{length, get_or, take, drop, length-take, length-drop}
-use lib.Seq.{take_all, take-length, take-suc, get_or-drop, get_or-take}
+use Rattle.std.proofs.lemmas.List.{take-take}
+use lib.Seq.{take-length, take-suc, get_or-drop, get_or-take}
 use lib.Dec.{eqb}
-use borrow.Author.Tests.{eq-eqb, ne_eqb, eqb-true, eqb-false}
+use lib.Pointwise.{pointwise}
+use borrow.Author.Tests.{ne_eqb, eqb-true, eqb-false}
 use Rattle.scheme.specs.Bits.{bytes_for}
 use Rattle.scheme.specs.Cells.{Cell, eqbs, same, find}
 use Rattle.scheme.specs.Memory.{cell_at, cells_of}
@@ -45,39 +47,16 @@ eqbs-long [] (y ∷ ys) n = refl
 eqbs-long (x ∷ xs) [] n = refl
 eqbs-long (x ∷ xs) (y ∷ ys) n = rw (eqbs-long xs ys (λ e. n (ap suc e))) (and-false (eqb x y))
 
--- ---- `same_bytes`
-
-pub bytes-long : (xs ys : List ℕ) → (length xs ≡ length ys → ⊥) → false ≡ eqbs xs ys
-bytes-long xs ys n = sym (eqbs-long xs ys n)
-
-pub bytes_diff : (xs ys : List ℕ) (k : ℕ) → k < length xs → length xs ≡ length ys → (get_or xs k 0 ≡ get_or ys k 0 → ⊥) → false ≡ eqbs xs ys
-bytes_diff xs ys k h l n = sym (eqbs_diff xs ys k h (omega arith) n)
+-- what `==` of two slices answers
+pub compared : (xs ys : List ℕ) → pointwise eqb xs ys ≡ eqbs xs ys
+compared [] [] = refl
+compared [] (y ∷ ys) = refl
+compared (x ∷ xs) [] = refl
+compared (x ∷ xs) (y ∷ ys) = rw (compared xs ys)
 
 -- fronts of two lists that agree, and the next element of each
-pub front-more : (xs ys : List ℕ) (k : ℕ) → k < length xs → k < length ys → take k xs ≡ take k ys → get_or xs k 0 ≡ get_or ys k 0 → take (k + 1) xs ≡ take (k + 1) ys
+front-more : (xs ys : List ℕ) (k : ℕ) → k < length xs → k < length ys → take k xs ≡ take k ys → get_or xs k 0 ≡ get_or ys k 0 → take (k + 1) xs ≡ take (k + 1) ys
 front-more xs ys k h l e g = rw (add-one, take-suc xs k 0 h, take-suc ys k 0 l, e, g)
-
--- fronts that agree, up to the whole of both
-pub bytes_same : (xs ys : List ℕ) (k : ℕ) → length xs ≤ k → length xs ≡ length ys → take k xs ≡ take k ys → true ≡ eqbs xs ys
-bytes_same xs ys k h l e = sym (eqbs-eq xs ys (rw (take_all k xs h, take_all k ys (omega arith)) at e))
-
--- ---- `same_head`: its ways out, in order
-
-module _ (t : List ℕ) (i flag bits n r : ℕ) (e : r ≡ get_or t (i * 7 + 1) 0) where
-  pub head-bits : (r ≡ bits → ⊥) → false ≡ same_head t i flag bits n
-  unfolding same_head
-  head-bits h = rw (← e, ne_eqb r bits h) (sym (and-false (eqb (get_or t (i * 7) 0) flag)))
-
-  module _ (h : r ≡ bits) (s : ℕ) (f : s ≡ get_or t (i * 7 + 2) 0) where
-    pub head-refs : (s ≡ n → ⊥) → false ≡ same_head t i flag bits n
-    unfolding same_head
-    head-refs g = rw (← e, eq-eqb r bits h, ← f, ne_eqb s n g) (sym (and-false (eqb (get_or t (i * 7) 0) flag)))
-
-    pub head-flag : s ≡ n → (x : ℕ) → x ≡ get_or t (i * 7 + 0) 0 → eqb x flag ≡ same_head t i flag bits n
-    unfolding same_head
-    head-flag g x q =
-        ap (λ (y : ℕ). eqb y flag) (q ∙ ap (λ (k : ℕ). get_or t k 0) (add-zero (i * 7)))
-        ∙ rw (← e, eq-eqb r bits h, ← f, eq-eqb s n g) (sym (and-true (eqb (get_or t (i * 7) 0) flag)))
 
 -- ---- the search: none of the first i cells is c when `find` gives i
 
@@ -223,11 +202,11 @@ module _ (n : ℕ) (t d w rs : List ℕ) (flag bits i : ℕ) (fields : Fields n 
 
   -- all agree but the bytes, which are compared
   pub cell-last : (k : ℕ) (r : Bool) → same_head t i flag bits (length rs) ≡ true → k ≤ length rs → length rs ≤ k → take k (drop (i * 7 + 3) t) ≡ take k rs
-      → r ≡ eqbs (take (i * 128 + bytes_for bits - i * 128) (drop (i * 128) d)) (take (bytes_for bits) w) → same (cell_at t d i) (cell_of flag bits w rs) ≡ r
-  cell-last k r e l g q s =
+      → bits ≤ 1023 → r ≡ eqbs (take (bytes_for bits) (take 128 (drop (i * 128) d))) (take (bytes_for bits) w) → same (cell_at t d i) (cell_of flag bits w rs) ≡ r
+  cell-last k r e l g q h s =
       let m : k ≡ length rs = omega arith in
-      let b : i * 128 + bytes_for bits - i * 128 ≡ bytes_for bits = omega arith in
-      cell-bytes e (rw m at q) ∙ sym (rw b at s)
+      let b : bytes_for bits ≤ 128 = omega arith in
+      cell-bytes e (rw m at q) ∙ sym (rw (take-take (bytes_for bits) 128 (drop (i * 128) d) b) at s)
 
 -- ---- an equal cell of a sound store stands above its references
 
@@ -254,13 +233,6 @@ module _ (n : ℕ) (t d : List ℕ) (s : SoundMemory n t d) (x : Cell) (p : ℕ)
 
   pub none_below : find (cells_of p t d) x ≡ p
   none_below = none-to p (omega arith)
-
--- a step of `above`
-pub least-none : (xs : List ℕ) → Least xs 0
-least-none xs m f = omega arith
-
-pub least_more : (xs : List ℕ) (k r : ℕ) → k < length xs → r ≡ get_or xs k 0 → Least xs (r + 1)
-least_more xs k r h e m f = omega (arith, f k h)
 
 pub sound-fields : (n : ℕ) (t d : List ℕ) → SoundMemory n t d → Fields n t d
 sound-fields n t d s =

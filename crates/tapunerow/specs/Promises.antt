@@ -1,5 +1,6 @@
 -- What each function promises: the number, the entries of the lent answer, and all other lent memory afterwards. A flag is set if it is not 0.
 use Rattle.std.specs.Prelude.{ℕ, ◌≡◌, not, List, eqb}
+use Rattle.scheme.specs.Res.{Res}
 use Rattle.scheme.specs.Calls.{clearing, asking, reading, writing, measuring, printing}
 use Rattle.tapunerow.specs.Answers.{number_of, entries_of, nothing, single, fields, counts, lengths}
 use Rattle.tapunerow.specs.Outcomes.{offering, copying}
@@ -25,6 +26,11 @@ pub record WireAsks (n : ℕ) (t d : List ℕ) (i r : ℕ) (a' : List ℕ) : Typ
 pub record WireCopies (n : ℕ) (t d : List ℕ) (i : ℕ) (o : List ℕ) (r : ℕ) (o' a' : List ℕ) : Type 0 where
   pub number : r ≡ number_of (copying n t d i o).answer
   pub entries : a' ≡ entries_of 0 single (copying n t d i o).answer
+  pub out : o' ≡ (copying n t d i o).out
+
+-- a cell's data copied to an output, which was o: the answer, and the output
+pub record Copies (n : ℕ) (t d : List ℕ) (i : ℕ) (o : List ℕ) (r : Res ℕ) (o' : List ℕ) : Type 0 where
+  pub answer : r ≡ (copying n t d i o).answer
   pub out : o' ≡ (copying n t d i o).out
 
 pub record WireReads (whole n : ℕ) (t d s rs reply : List ℕ) (r n' : ℕ) (t' d' s' rs' a' : List ℕ) : Type 0 where

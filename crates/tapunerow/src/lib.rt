@@ -2,25 +2,85 @@
 // library: the result is 0 or the refusal's number, and the lent answer takes the values, or the refusal's place in its first entry and 0 in the others.
 #![tactic(auto)]
 
-ghost use Rattle.std.specs.Prelude.{◌≡◌};
-ghost use Rattle.scheme.specs.Bits.{bit_of};
+ghost use Rattle.std.specs.Prelude.{◌≡◌, List, ℕ, ◌-◌, ◌<◌};
 ghost use Rattle.scheme.specs.Crc.{crc_of};
-ghost use Rattle.reader.specs.Paper.{Reads};
-ghost use Rattle.tapunerow.specs.Promises.{WireClears, WireAdds, WireAsks, WireCopies, WireReads, WireWrites, WireMeasures, WirePrints};
+ghost use Rattle.reader.specs.Paper.{totals_of, Reads};
+ghost use Rattle.store.specs.Paper.{head_numbers};
+ghost use Rattle.text.specs.Paper.{printed_of};
+ghost use Rattle.tapunerow.specs.Answers.{number_of, entries_of, nothing, single, counts, lengths};
+ghost use Rattle.tapunerow.specs.Promises.{WireClears, WireAdds, WireAsks, WireCopies, WireReads, WireWrites, WireMeasures, WirePrints, Copies};
 
 use crc32c::crc32c;
-use depth::{Depth, max_depth};
-use memory::put_bytes;
-use reader::{ReadAnswer, deserialize, unpack_fully};
-use scheme::{CUT, NOROOM};
-use store::{Added, Asked, Cleared, add, cell, cell_data, clear};
-use text::{Text, debug_text};
+use depth::max_depth;
+use memory::put;
+use reader::{Counts, deserialize, unpack_fully};
+use scheme::{Reason, Refusal};
+use store::{CellHead, Cells, add, cell, cell_data, clear};
+use text::{Printed, debug_text};
 use wire::{holds, is_set, wire_cell};
-use writer::{BagOfCellsArgs, Wrote, serialize};
+use writer::{BagOfCellsArgs, serialize};
+
+// An outcome as C takes it: its number is answered, and its entries go to the lent answer.
+fn hand_over<const N: usize>(outcome: Result<[usize; N], Refusal>, answer: &mut [usize; N]) -> u32
+    requires { 0 < N }
+    ensures number { result ≡ number_of outcome.entry }
+    ensures entries { answer.new ≡ entries_of (N - 1) (λ (xs : List ℕ). xs) outcome.entry }
+{
+    match outcome {
+        Ok(values) => {
+            *answer = values;
+            0
+        }
+        Err(r) => {
+            answer.fill(0);
+            answer[0] = r.place;
+            r.reason.number()
+        }
+    }
+}
+
+// The entries that each call hands over.
+fn nothing(_done: ()) -> [usize; 1]
+    ensures { result ≡ nothing tt }
+{
+    [0]
+}
+
+fn single(n: usize) -> [usize; 1]
+    ensures { result ≡ single n }
+{
+    [n]
+}
+
+fn fields(h: CellHead) -> [usize; 7]
+    ensures { result ≡ head_numbers h }
+{
+    let [r0, r1, r2, r3] = h.refs;
+    [
+        usize::from(h.exotic),
+        h.len,
+        h.count,
+        r0 as usize,
+        r1 as usize,
+        r2 as usize,
+        r3 as usize,
+    ]
+}
+
+fn counts(c: Counts) -> [usize; 4]
+    ensures { result ≡ counts (totals_of c) }
+{
+    [c.used, c.cells, c.roots, c.added]
+}
+
+fn lengths(p: Printed) -> [usize; 2]
+    ensures { result ≡ lengths (printed_of p) }
+{
+    [p.written, p.cells]
+}
 
 // Empties the store.
-#[unsafe(no_mangle)]
-pub extern "C" fn tapunerow_clear(
+pub fn tapunerow_clear(
     count: &mut usize,
     table: &mut [u32],
     bytes: &mut [u8],
@@ -29,23 +89,12 @@ pub extern "C" fn tapunerow_clear(
     ensures { WireClears count.old table.old bytes.old
         result count.new table.new bytes.new answer.new }
 {
-    let cleared = clear(count, table, bytes);
-    match cleared {
-        Cleared::Done => {
-            *answer = [0];
-            0
-        }
-        Cleared::Refused(r) => {
-            *answer = [r.place];
-            r.number
-        }
-    }
+    hand_over(clear(count, table, bytes).map(nothing), answer)
 }
 
 // Adds the cell of the first bits of own and of these references. The answer: its number. Refuses CUT where own holds fewer bits, then as `store::add`.
 #[tactic(auto, unfolding(crate::specs::Outcomes::offering))]
-#[unsafe(no_mangle)]
-pub extern "C" fn tapunerow_add(
+pub fn tapunerow_add(
     count: &mut usize,
     table: &mut [u32],
     bytes: &mut [u8],
@@ -59,40 +108,14 @@ pub extern "C" fn tapunerow_add(
         result count.new table.new bytes.new answer.new }
 {
     if !holds(own.len(), bits) {
-        *answer = [0];
-        return CUT;
+        return hand_over(Err(Reason::Cut.at(0)), answer);
     }
     let added = add(count, table, bytes, wire_cell(exotic, bits, own, refs));
-    match added {
-        Added::Number(n) => {
-            *answer = [n];
-            0
-        }
-        Added::Refused(r) => {
-            *answer = [r.place];
-            r.number
-        }
-    }
-}
-
-fn bit(flag: bool) -> usize
-    ensures { result ≡ bit_of flag }
-{
-    if flag {
-        return 1;
-    }
-    0
-}
-
-fn wide(x: u32) -> usize
-    ensures { result ≡ x }
-{
-    x as usize
+    hand_over(added.map(single), answer)
 }
 
 // The answer: the exotic flag, the bit length, the number of references, the four references.
-#[unsafe(no_mangle)]
-pub extern "C" fn tapunerow_cell(
+pub fn tapunerow_cell(
     count: usize,
     table: &[u32],
     bytes: &[u8],
@@ -101,30 +124,31 @@ pub extern "C" fn tapunerow_cell(
 ) -> u32
     ensures { WireAsks count table.now bytes.now n result answer.new }
 {
-    let asked = cell(count, table, bytes, n);
-    match asked {
-        Asked::Cell(h) => {
-            *answer = [
-                bit(h.exotic),
-                h.len,
-                h.count,
-                wide(h.r0),
-                wide(h.r1),
-                wide(h.r2),
-                wide(h.r3),
-            ];
-            0
-        }
-        Asked::Refused(r) => {
-            *answer = [r.place, 0, 0, 0, 0, 0, 0];
-            r.number
-        }
+    let store = Cells {
+        count,
+        table,
+        bytes,
+    };
+    hand_over(cell(store, n).map(fields), answer)
+}
+
+// Copies the data of cell n to the front of out, and answers how many bytes.
+fn copy_cell_data(store: Cells, n: usize, out: &mut [u8]) -> Result<usize, Refusal>
+    ensures { Copies store.entry.count store.entry.table.now store.entry.bytes.now n out.old result out.new }
+{
+    let own = cell_data(store.count, store.table, store.bytes, n);
+    // Without data `cell` tells a cell that has none from a refusal; with data there is nothing more to ask.
+    if own.is_empty() {
+        cell(store, n)?;
     }
+    if out.len() < own.len() {
+        return Err(Reason::NoRoom.at(own.len()));
+    }
+    Ok(put(own, out, 0))
 }
 
 // Copies the data of cell n to the front of out. The answer: the bytes copied.
-#[unsafe(no_mangle)]
-pub extern "C" fn tapunerow_cell_data(
+pub fn tapunerow_cell_data(
     count: usize,
     table: &[u32],
     bytes: &[u8],
@@ -134,32 +158,15 @@ pub extern "C" fn tapunerow_cell_data(
 ) -> u32
     ensures { WireCopies count table.now bytes.now n out.old result out.new answer.new }
 {
-    let own = cell_data(count, table, bytes, n);
-    let len = own.len();
-    // Without data `cell` tells a cell that has none from a refusal; with data there is nothing more to ask.
-    if len == 0 {
-        let asked = cell(count, table, bytes, n);
-        match asked {
-            Asked::Cell(_) => {
-                *answer = [0];
-                return 0;
-            }
-            Asked::Refused(r) => {
-                *answer = [r.place];
-                return r.number;
-            }
-        }
-    }
-    if out.len() < len {
-        *answer = [len];
-        return NOROOM;
-    }
-    put_bytes(own, out, 0);
-    *answer = [len];
-    0
+    let store = Cells {
+        count,
+        table,
+        bytes,
+    };
+    hand_over(copy_cell_data(store, n, out).map(single), answer)
 }
 
-// Reads a bag by one of the two readings.
+// Reads a bag by one of the two readings, which C names by a flag.
 fn read(
     reply: &[u8],
     whole: bool,
@@ -168,7 +175,7 @@ fn read(
     bytes: &mut [u8],
     scratch: &mut [u32],
     roots: &mut [u32],
-) -> ReadAnswer
+) -> Result<Counts, Refusal>
     ensures { Reads whole count.old table.old bytes.old scratch.old roots.old reply.now
         result count.new table.new bytes.new scratch.new roots.new }
 {
@@ -179,8 +186,7 @@ fn read(
 }
 
 // Reads a bag into the store; if whole is set, no byte may follow it. The answer: bytes used, bag cells, roots, cells added.
-#[unsafe(no_mangle)]
-pub extern "C" fn tapunerow_read(
+pub fn tapunerow_read(
     reply: &[u8],
     whole: u32,
     count: &mut usize,
@@ -194,21 +200,11 @@ pub extern "C" fn tapunerow_read(
         result count.new table.new bytes.new scratch.new roots.new answer.new }
 {
     let done = read(reply, is_set(whole), count, table, bytes, scratch, roots);
-    match done {
-        ReadAnswer::Done(c) => {
-            *answer = [c.used, c.cells, c.roots, c.added];
-            0
-        }
-        ReadAnswer::Refused(r) => {
-            *answer = [r.place, 0, 0, 0];
-            r.number
-        }
-    }
+    hand_over(done.map(counts), answer)
 }
 
 // Writes the bag of cell n to the front of out. The answer: the bytes written.
-#[unsafe(no_mangle)]
-pub extern "C" fn tapunerow_write(
+pub fn tapunerow_write(
     count: usize,
     table: &[u32],
     bytes: &[u8],
@@ -226,22 +222,17 @@ pub extern "C" fn tapunerow_write(
         has_idx: is_set(has_idx),
         has_crc32c: is_set(has_crc32c),
     };
-    let wrote = serialize(count, table, bytes, n, args, scratch, out);
-    match wrote {
-        Wrote::Bytes(len) => {
-            *answer = [len];
-            0
-        }
-        Wrote::Refused(r) => {
-            *answer = [r.place];
-            r.number
-        }
-    }
+    let store = Cells {
+        count,
+        table,
+        bytes,
+    };
+    let wrote = serialize(store, n, args, scratch, out);
+    hand_over(wrote.map(single), answer)
 }
 
 // The answer: the depth of cell n.
-#[unsafe(no_mangle)]
-pub extern "C" fn tapunerow_depth(
+pub fn tapunerow_depth(
     count: usize,
     table: &[u32],
     bytes: &[u8],
@@ -251,22 +242,17 @@ pub extern "C" fn tapunerow_depth(
 ) -> u32
     ensures { WireMeasures count table.now bytes.now n scratch.old result scratch.new answer.new }
 {
-    let depth = max_depth(count, table, bytes, n, scratch);
-    match depth {
-        Depth::Levels(levels) => {
-            *answer = [levels];
-            0
-        }
-        Depth::Refused(r) => {
-            *answer = [r.place];
-            r.number
-        }
-    }
+    let store = Cells {
+        count,
+        table,
+        bytes,
+    };
+    let depth = max_depth(store, n, scratch);
+    hand_over(depth.map(single), answer)
 }
 
 // Writes the text of cell n to the front of out, at most budget cells. The answer: the bytes written, and the cells printed.
-#[unsafe(no_mangle)]
-pub extern "C" fn tapunerow_text(
+pub fn tapunerow_text(
     count: usize,
     table: &[u32],
     bytes: &[u8],
@@ -279,22 +265,17 @@ pub extern "C" fn tapunerow_text(
     ensures { WirePrints count table.now bytes.now n budget scratch.old out.old
         result scratch.new out.new answer.new }
 {
-    let text = debug_text(count, table, bytes, n, budget, scratch, out);
-    match text {
-        Text::Printed(p) => {
-            *answer = [p.written, p.cells];
-            0
-        }
-        Text::Refused(r) => {
-            *answer = [r.place, 0];
-            r.number
-        }
-    }
+    let store = Cells {
+        count,
+        table,
+        bytes,
+    };
+    let text = debug_text(store, n, budget, scratch, out);
+    hand_over(text.map(lengths), answer)
 }
 
 // CRC-32C of the bytes.
-#[unsafe(no_mangle)]
-pub extern "C" fn tapunerow_crc32c(bytes: &[u8]) -> u32
+pub fn tapunerow_crc32c(bytes: &[u8]) -> u32
     ensures { result ≡ crc_of bytes.now }
 {
     crc32c(bytes)

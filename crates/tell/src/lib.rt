@@ -34,6 +34,7 @@ pub fn read_full<R: Read>(input: &mut R, room: &mut [u8]) -> io::Result<usize>
     ensures { IfOk result (λ n. n ≤ length room.new) }
 {
     let mut done = 0;
+    // How far a turn gets is for the input to say.
     while done < room.len() {
         let n = input.read(&mut room[done..])?;
         if n == 0 {
@@ -44,7 +45,7 @@ pub fn read_full<R: Read>(input: &mut R, room: &mut [u8]) -> io::Result<usize>
     Ok(done)
 }
 
-// Writes the report of a reply, or nothing if it does not fit out.
+// Writes the report of a reply, or nothing if it does not fit out. The store's parts stay apart for the reason that stands above `store::place`.
 pub fn tell<W: Write>(
     to: &mut W,
     reply: &[u8],

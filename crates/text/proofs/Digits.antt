@@ -30,7 +30,9 @@ digits-one k n h = rw (lt-ltb n 10 h)
 digits_more : (k n : ℕ) → n < 10 ^ suc k → digits (suc (suc k)) n ≡ digits (suc k) n
 unfolding digits
 digits_more zero n h = digits-one 1 n (omega arith) ∙ sym (digits-one 0 n (omega arith))
-digits_more (suc k) n h = ap (λ l. cond (ltb n 10) ((48 + n) ∷ []) (l ++ (48 + n % 10) ∷ [])) (digits_more k (n / 10) (tenth (10 ^ suc k) (rw (pow-suc 10 (suc k)) at h)))
+digits_more (suc k) n h =
+    ap (λ l. cond (ltb n 10) ((48 + n) ∷ []) (l ++ (48 + n % 10) ∷ []))
+    (digits_more k (n / 10) (tenth (10 ^ suc k) (rw (pow-suc 10 (suc k)) at h)))
   where
     tenth : (m : ℕ) → n < m * 10 → n / 10 < m
     tenth m h = omega arith

@@ -1,11 +1,11 @@
 -- Laws of texts and sizes. Assumes nothing.
 use mathlib.Core.Path.{◌≡◌, refl, sym, ap, ◌∙◌}
 use mathlib.Core.List.{List, [], ◌∷◌, ◌++◌, map, append_assoc, append-nil}
-use Prim.Native.Nat.{ℕ, zero, suc, ◌+◌, ◌-◌, ◌*◌, ◌/◌, ◌<◌, ◌≤◌, min}
+use Prim.Native.Nat.{ℕ, zero, suc, ◌+◌, ◌*◌, ◌/◌, ◌<◌, ◌≤◌, min}
 use native.Mathlib.Nat.{not-suc-le-zero, pos_of_ne-zero, le_of_eq, le_refl, add-zero, eq-or-lt_of_le}
 use mathlib.Core.Logic.{⊎_elim}
 use native.Mathlib.Omega.{arith}
-use lib.ListN.{length, take, drop, get_or, length-append, length-map, length-take, length-drop}
+use lib.ListN.{length, drop, get_or, length-append, length-map, length-take, length-drop}
 use Rattle.scheme.specs.Cells.{Cell}
 use Rattle.laws.specs.Records.{refs_at, RecordOk, CellsOk, refs-cons, refs_end, refs-length}
 use Rattle.scheme.specs.Memory.{cell_at}
@@ -22,14 +22,8 @@ own-length n b = simp length-append
 
 -- ---- a cell's own part
 
--- the part of the data that is lent
-pub part_bytes : (d : List ℕ) (n len : ℕ) → take (n * 128 + (len + 7) / 8 - n * 128) (drop (n * 128) d) ≡ bytes_at d n len
-unfolding bytes_at
-part_bytes d n len =
-    let e : n * 128 + (len + 7) / 8 - n * 128 ≡ (len + 7) / 8 = omega arith in
-    ap (λ k. take k (drop (n * 128) d)) e
-
-pub own_room : (t d : List ℕ) (n len : ℕ) → len ≡ get_or t (n * 7 + 1) 0 → len ≤ 1023 → length (own_at t d n) ≡ length (digits 20 len) + 3 + length (hex (bytes_at d n len)) + 1
+pub own_room : (t d : List ℕ) (n len : ℕ) → len ≡ get_or t (n * 7 + 1) 0 → len ≤ 1023
+    → length (own_at t d n) ≡ length (digits 20 len) + 3 + length (hex (bytes_at d n len)) + 1
 own_room t d n len e l = rw (e, ← digits_4 (get_or t (n * 7 + 1) 0) (rw e at l)) (own-length (get_or t (n * 7 + 1) 0) (bytes_at d n (get_or t (n * 7 + 1) 0)))
 
 -- the calls of `put_own`, one behind the other
@@ -127,7 +121,8 @@ module _ (t d : List ℕ) (n : ℕ) (ok : RecordOk t n) where
     pub text-more : j + 1 < get_or t (n * 7 + 2) 0 → refs_text t d n j ≡ text_at t d r ++ (44 ∷ 32 ∷ []) ++ refs_text t d n (j + 1)
     text-more l =
         rw (refs-cons t n j ok h, refs-cons t n (j + 1) ok l, e)
-        (joined-two (text_at t d (get_or t (n * 7 + (3 + j)) 0)) (text_at t d (get_or t (n * 7 + (3 + (j + 1))) 0)) (map (text_at t d) (drop (j + 1 + 1) (refs_at t n))))
+        (joined-two (text_at t d (get_or t (n * 7 + (3 + j)) 0)) (text_at t d (get_or t (n * 7 + (3 + (j + 1))) 0))
+        (map (text_at t d) (drop (j + 1 + 1) (refs_at t n))))
 
     pub first-le : length (text_at t d r) ≤ length (refs_text t d n j)
     first-le = ⊎_elim

@@ -1,13 +1,13 @@
 -- The reading of an accepted bag, step by step, and of a front of it: it refuses CUT at the first field that is not whole.
 -- Assumes nothing.
-use Rattle.std.specs.Prelude.{◌≡◌, refl, Bool, true, false, not, ◌||◌, length, take, leb, eqb}
+use Rattle.std.specs.Prelude.{◌≡◌, refl, Bool, true, false, not, ◌||◌, length, take, leb, eqb, Ok, Err}
 use Prim.Native.Nat.{ℕ, ◌+◌, ◌*◌, ◌≤◌, ◌<◌}
 use Rattle.std.proofs.Common.{arith, leb-true, leb-false}
 use Rattle.std.proofs.Math.Bool.{cond}
 use mathlib.Core.List.{List, [], ◌∷◌, ◌++◌, append_assoc}
 use Rattle.std.proofs.Math.ListN.{replicate}
 use Rattle.scheme.specs.Refusals.{CUT, CRC, EXTRA}
-use Rattle.scheme.specs.Res.{bad, ok, check, refusal}
+use Rattle.scheme.specs.Res.{check, refusal}
 use Rattle.scheme.specs.Bytes.{chunk, fields, unle}
 use Rattle.scheme.specs.Crc.{crc_of}
 use Rattle.scheme.specs.Cells.{Cell}
@@ -34,12 +34,12 @@ not-whole k us (w ∷ ws) h g = go (leb (total us + w) k) refl (not-whole k (us 
         record { before = us; width = w; behind = ws; fields = refl; place = refl; begins = h; ends = j }
 
 -- the place behind the numbers that are read
-numbers-next : (b : List ℕ) (w n p : ℕ) (c : Past (List ℕ)) → numbers b w n p ≡ ok c → c.next ≡ p + n * w
+numbers-next : (b : List ℕ) (w n p : ℕ) (c : Past (List ℕ)) → numbers b w n p ≡ Ok c → c.next ≡ p + n * w
 unfolding numbers
 numbers-next b w n p c e = then_use (fields b w n p) _ _ e λ xs x₁ e₁. cc
 
 -- the place behind the checksum
-sum-next : (has : Bool) (b : List ℕ) (p end : ℕ) → checksum has b p ≡ ok end → end ≡ p + total (cond has (4 ∷ []) [])
+sum-next : (has : Bool) (b : List ℕ) (p end : ℕ) → checksum has b p ≡ Ok end → end ≡ p + total (cond has (4 ∷ []) [])
 unfolding checksum
 sum-next false b p end e = let q : end ≡ p = cc in omega arith
 sum-next true b p end e =
@@ -71,22 +71,22 @@ fields-is : (b : List ℕ) (h : Header) (p : ℕ) → HeaderIs b h → p ≡ tot
 unfolding bag_fields
 fields-is b h p H e = rw (e, before-is b h H, H.size_is, H.cells_is, H.crc-is)
 
-root-next : (b : List ℕ) (h : Header) (c : Past (List ℕ)) → h.shape.has-list ≡ true → root_list b h ≡ ok c → c.next ≡ h.next + h.roots * h.shape.size
+root-next : (b : List ℕ) (h : Header) (c : Past (List ℕ)) → h.shape.has-list ≡ true → root_list b h ≡ Ok c → c.next ≡ h.next + h.roots * h.shape.size
 unfolding root_list
 root-next b h c e x = numbers-next b h.shape.size h.roots h.next c (rw e at x)
 
-index-next : (b : List ℕ) (h : Header) (p : ℕ) (c : Past (List ℕ)) → index b h p ≡ ok c → c.next ≡ p + cond h.shape.has_idx h.cells 0 * h.off
+index-next : (b : List ℕ) (h : Header) (p : ℕ) (c : Past (List ℕ)) → index b h p ≡ Ok c → c.next ≡ p + cond h.shape.has_idx h.cells 0 * h.off
 unfolding index
 index-next b h p c x = numbers-next b h.off (cond h.shape.has_idx h.cells 0) p c x
 
-root-front : (k : ℕ) (b : List ℕ) → k ≤ length b → (h : Header) (c : Past (List ℕ)) → h.shape.has-list ≡ true → root_list b h ≡ ok c → h.next ≤ k
+root-front : (k : ℕ) (b : List ℕ) → k ≤ length b → (h : Header) (c : Past (List ℕ)) → h.shape.has-list ≡ true → root_list b h ≡ Ok c → h.next ≤ k
     → Front k h.next (replicate h.roots h.shape.size) c (root_list (take k b) h)
 unfolding root_list
 root-front k b hk h c e x j =
-    let y : numbers b h.shape.size h.roots h.next ≡ ok c = rw e at x in
+    let y : numbers b h.shape.size h.roots h.next ≡ Ok c = rw e at x in
     rw e (front-numbers k b hk h.shape.size h.roots h.next c y j)
 
-index-front : (k : ℕ) (b : List ℕ) → k ≤ length b → (h : Header) (p : ℕ) (c : Past (List ℕ)) → index b h p ≡ ok c → p ≤ k
+index-front : (k : ℕ) (b : List ℕ) → k ≤ length b → (h : Header) (p : ℕ) (c : Past (List ℕ)) → index b h p ≡ Ok c → p ≤ k
     → Front k p (replicate (cond h.shape.has_idx h.cells 0) h.off) c (index (take k b) h p)
 unfolding index
 index-front k b hk h p c x j = front-numbers k b hk h.off (cond h.shape.has_idx h.cells 0) p c x j
@@ -97,14 +97,14 @@ pub record Read (whole : Bool) (scratch room : ℕ) (b : List ℕ) (g : Bag) : T
   pub roots : Past (List ℕ)
   pub entries : Past (List ℕ)
   pub cells : Past (List Cell)
-  pub header_ok : header scratch room b ≡ ok head
-  pub roots-ok : root_list b head ≡ ok roots
-  pub entries-ok : index b head roots.next ≡ ok entries
-  pub cells-ok : raw_cells b head.shape.size head.cells entries.next ≡ ok cells
-  pub sum-ok : checksum head.shape.has_crc b cells.next ≡ ok g.used
+  pub header_ok : header scratch room b ≡ Ok head
+  pub roots-ok : root_list b head ≡ Ok roots
+  pub entries-ok : index b head roots.next ≡ Ok entries
+  pub cells-ok : raw_cells b head.shape.size head.cells entries.next ≡ Ok cells
+  pub sum-ok : checksum head.shape.has_crc b cells.next ≡ Ok g.used
   pub whole-ok : (not whole || leb (length b) g.used) ≡ true
 
-pub bag-read : (whole : Bool) (scratch room : ℕ) (b : List ℕ) (g : Bag) → bag whole scratch room b ≡ ok g → Read whole scratch room b g
+pub bag-read : (whole : Bool) (scratch room : ℕ) (b : List ℕ) (g : Bag) → bag whole scratch room b ≡ Ok g → Read whole scratch room b g
 unfolding bag
 bag-read whole scratch room b g e =
     then_use (header scratch room b) _ _ e λ h x₁ e₁.
@@ -180,9 +180,9 @@ module _ {whole : Bool} {scratch room : ℕ} {b : List ℕ} {g : Bag} (R : Read 
         front-then vs R.cells.next _ (front-cells k b hk h.shape.size h.cells R.entries.next R.cells R.cells-ok j₃) (omega arith) λ j₄.
         front-stop _ (front-sum k b hk h.shape.has_crc R.cells.next g.used R.sum-ok j₄) (omega (arith, fields-end)))
 
-    pub bag-cut : bag half scratch room (take k b) ≡ bad (refusal CUT (cut_place 0 k (bag_fields b)))
+    pub bag-cut : bag half scratch room (take k b) ≡ Err (refusal CUT (cut_place 0 k (bag_fields b)))
     bag-cut = go (rw all-fields at front-bag)
       where
-        go : Front k 0 (bag_fields b) g (bag half scratch room (take k b)) → bag half scratch room (take k b) ≡ bad (refusal CUT (cut_place 0 k (bag_fields b)))
+        go : Front k 0 (bag_fields b) g (bag half scratch room (take k b)) → bag half scratch room (take k b) ≡ Err (refusal CUT (cut_place 0 k (bag_fields b)))
         go (within x e) = absurd (omega arith)
         go (past x e) = e

@@ -1,6 +1,6 @@
 -- A text of the grammar is accepted, and read as what it says.
 -- Assumes nothing.
-use Rattle.std.specs.Prelude.{◌≡◌, ℕ, suc, ◌+◌, ◌-◌, ◌*◌, ◌/◌, ◌%◌, ◌^◌, ◌≤◌, ◌<◌, Bool, true, false, not, ◌||◌, ◌&&◌, take, eqb, leb}
+use Rattle.std.specs.Prelude.{◌≡◌, ℕ, suc, ◌+◌, ◌-◌, ◌*◌, ◌/◌, ◌%◌, ◌^◌, ◌≤◌, ◌<◌, Bool, true, false, not, ◌||◌, ◌&&◌, take, eqb, leb, Ok}
 use Rattle.std.proofs.Math.Path.{refl, ap}
 use Rattle.std.proofs.Common.{sym, ◌∙◌, length-append, take_at, le-leb, lt-ltb, ne_eqb, eqb-true, eq-eqb}
 use native.Mathlib.Omega.{arith}
@@ -10,7 +10,6 @@ use mathlib.Core.List.Memᴰ.{tail as there}
 use mathlib.Core.List.{List, [], ◌∷◌, ◌++◌, map, append_assoc, Memᴰ as Mem}
 use Rattle.std.proofs.Math.ListN.{length, length-map}
 use Rattle.scheme.specs.Limits.{max_cells}
-use Rattle.scheme.specs.Res.{ok}
 use Rattle.scheme.specs.Bytes.{be, le, unle, field, fields}
 use Rattle.scheme.specs.Bits.{bit_of, last_of, zeros, unmark}
 use Rattle.scheme.specs.Crc.{crc_of}
@@ -58,13 +57,13 @@ d2-back n false h = let z : (2 * n - 0) % 2 ≡ 0 = omega arith in (omega arith,
 abbrev bits_in : Bool → List ℕ → Bits
 bits_in done xs = record { len = cond done (8 * length xs - 1 - zeros 8 (last_of xs)) (8 * length xs); bytes = cond done (unmark (zeros 8 (last_of xs)) xs) xs }
 
-bits_back : (done : Bool) (q : ℕ) (xs : List ℕ) → (done ≡ true → last_of xs ≡ 0 → ⊥) → bits done q xs ≡ ok (bits_in done xs)
+bits_back : (done : Bool) (q : ℕ) (xs : List ℕ) → (done ≡ true → last_of xs ≡ 0 → ⊥) → bits done q xs ≡ Ok (bits_in done xs)
 unfolding bits
 bits_back false q xs h = refl
 bits_back true q xs h = rw (ne_eqb (last_of xs) 0 (h refl))
 
 pub cell-back : {b : List ℕ} (size : ℕ) {p : ℕ} (c : RawCell) (l : List ℕ) → RawCellOk c → ((r : ℕ) → Mem r c.refs → r < 256 ^ size) → At b p (cell_text size c ++ l)
-    → raw_cell b size p ≡ ok (record { it = cell_of c; next = p + length (cell_text size c) })
+    → raw_cell b size p ≡ Ok (record { it = cell_of c; next = p + length (cell_text size c) })
 unfolding raw_cell cell_text cell_of refs_descriptor bits_descriptor
 cell-back {b} size {p} c l F R A =
     let d1 = refs_descriptor c in
@@ -87,21 +86,21 @@ cell-back {b} size {p} c l F R A =
     let f₃ = field-byte d2 l₂ A₁ in
     let f₄ = at-chunk hs (xs ++ (all_be size rs ++ l)) (hashes d1) A₃ n₁ in
     let f₅ = at-chunk xs (all_be size rs ++ l) ((d2 + 1) / 2) A₄ n₂ in
-    let f₆ : bits (eqb (d2 % 2) 1) (p + 2 + hashes d1) xs ≡ ok (bits_in c.completed xs) = rw E.1 (bits_back c.completed (p + 2 + hashes d1) xs F.some) in
-    let f₇ : fields b size (d1 % 8) (p + 2 + hashes d1 + (d2 + 1) / 2) ≡ ok rs = rw D.0 (refs-back size rs l A₅ R) in
+    let f₆ : bits (eqb (d2 % 2) 1) (p + 2 + hashes d1) xs ≡ Ok (bits_in c.completed xs) = rw E.1 (bits_back c.completed (p + 2 + hashes d1) xs F.some) in
+    let f₇ : fields b size (d1 % 8) (p + 2 + hashes d1 + (d2 + 1) / 2) ≡ Ok rs = rw D.0 (refs-back size rs l A₅ R) in
     let next : p + 2 + hashes d1 + (d2 + 1) / 2 + d1 % 8 * size ≡ p + length (cell_text size c) =
     rw D.0 (omega (arith, length-append hs (xs ++ all_be size rs), length-append xs (all_be size rs), length-refs size rs)) in
-    rw (f₁, f₂, f₃, f₄, f₅, f₆, f₇) (ap ok (past_path _ _ (cell_path _ _ D.1 refl refl refl) next))
+    rw (f₁, f₂, f₃, f₄, f₅, f₆, f₇) (ap Ok (past_path _ _ (cell_path _ _ D.1 refl refl refl) next))
 
 pub cells-back : {b : List ℕ} (size : ℕ) {p : ℕ} (cs : List RawCell) (l : List ℕ) → ((c : RawCell) → Mem c cs → RawCellOk c)
     → ((c : RawCell) → Mem c cs → (r : ℕ) → Mem r c.refs → r < 256 ^ size) → At b p (cells_text size cs ++ l)
-    → raw_cells b size (length cs) p ≡ ok (record { it = map cell_of cs; next = p + length (cells_text size cs) })
-cells-back size {p = p} [] l F R A = ap ok (past_path _ _ refl (omega arith))
+    → raw_cells b size (length cs) p ≡ Ok (record { it = map cell_of cs; next = p + length (cells_text size cs) })
+cells-back size {p = p} [] l F R A = ap Ok (past_path _ _ refl (omega arith))
 cells-back size {p = p} (c ∷ cs) l F R A =
     let A₁ = at_same (cell_text size c ++ (cells_text size cs ++ l)) A (append_assoc (cell_text size c) (cells_text size cs) l) in
     let ih = cells-back size {p = p + length (cell_text size c)} cs l (λ d m. F d (there m)) (λ d m. R d (there m)) (at_next (cell_text size c) (cells_text size cs ++ l) (length (cell_text size c)) A₁ refl) in
     let next : p + length (cell_text size c) + length (cells_text size cs) ≡ p + length (cells_text size (c ∷ cs)) = omega (arith, length-append (cell_text size c) (cells_text size cs)) in
-    rw (cell-back size c (cells_text size cs ++ l) (F c (here refl)) (R c (here refl)) A₁, ih) (ap ok (past_path _ _ refl next))
+    rw (cell-back size c (cells_text size cs ++ l) (F c (here refl)) (R c (here refl)) A₁, ih) (ap Ok (past_path _ _ refl next))
 
 -- byte 4 read back
 abbrev byte_of : Bool → Bool → Bool → ℕ → ℕ → ℕ
@@ -143,33 +142,33 @@ layout-back idx sum cache flags size hf hs =
     let r : eqb (byte_of idx sum cache flags size / 64 % 2) 1 ≡ sum = rw r₁ (bit_is sum) in
     λ i. record { size = p i; has_idx = q i; has_crc = r i; has-list = true }
 
-links-ok : (i n : ℕ) (cs : List Cell) → ((k : ℕ) → k < length cs → (r : ℕ) → Mem r (at cs k).refs → (i + k < r) × (r < n)) → links i n cs ≡ ok tt
+links-ok : (i n : ℕ) (cs : List Cell) → ((k : ℕ) → k < length cs → (r : ℕ) → Mem r (at cs k).refs → (i + k < r) × (r < n)) → links i n cs ≡ Ok tt
 links-ok i n [] h = refl
 links-ok i n (c ∷ cs) h =
     let f : (r : ℕ) → Mem r c.refs → (i < r) × (r < n) = λ r m. let g = h 0 (omega arith) r m in (omega arith, g.1) in
     let t : (k : ℕ) → k < length cs → (r : ℕ) → Mem r (at cs k).refs → (suc i + k < r) × (r < n) = λ k l r m. let g = h (suc k) (omega arith) r m in (omega arith, g.1) in
     rw (links-ok (suc i) n cs t) (refs-ok i n c.refs f)
 
-roots-ok : (k n : ℕ) (rs : List ℕ) → ((r : ℕ) → Mem r rs → r < n) → roots_ok k n rs ≡ ok tt
+roots-ok : (k n : ℕ) (rs : List ℕ) → ((r : ℕ) → Mem r rs → r < n) → roots_ok k n rs ≡ Ok tt
 roots-ok k n [] h = refl
 roots-ok k n (r ∷ rs) h = rw (lt-ltb r n (h r (here refl))) (roots-ok (suc k) n rs (λ x m. h x (there m)))
 
 -- the checksum of a text up to place p
-sum_back : {b : List ℕ} (has : Bool) (p : ℕ) (w l : List ℕ) → At b p (cond has (le 4 (crc_of w)) [] ++ l) → take p b ≡ w → checksum has b p ≡ ok (p + length (cond has (le 4 (crc_of w)) []))
+sum_back : {b : List ℕ} (has : Bool) (p : ℕ) (w l : List ℕ) → At b p (cond has (le 4 (crc_of w)) [] ++ l) → take p b ≡ w → checksum has b p ≡ Ok (p + length (cond has (le 4 (crc_of w)) []))
 unfolding checksum
-sum_back false p w l A e = ap ok (omega arith)
+sum_back false p w l A e = ap Ok (omega arith)
 sum_back {b} true p w l A e =
     let c = crc_of w in
     let f₁ = at-chunk (le 4 c) l 4 A (length-le 4 c) in
     let f₂ = eq-eqb (unle (le 4 c)) c (unle-le 4 c (crc_small w)) in
     let n : p + 4 ≡ p + length (le 4 c) = rw (length-le 4 c) in
-    rw (f₁, e, f₂) (ap ok n)
+    rw (f₁, e, f₂) (ap Ok n)
 
 header-back : {b : List ℕ} (scratch room : ℕ) (h : Head) (n : ℕ) (l : List ℕ)
     → At b 0 (be 4 generic_tag ++ (byte4 h ∷ h.off ∷ (be h.size n ++ (be h.size (length h.roots) ++ (be h.size h.absent ++ (be h.off h.total ++ l))))))
     → h.size ≤ 4 → h.off ≤ 8 → h.flags ≤ 3 → n < 256 ^ h.size → h.total < 256 ^ h.off → length h.roots + h.absent ≤ n → n ≤ max_cells → read_scratch n ≤ scratch
     → length h.roots ≤ room
-    → (header scratch room b ≡ ok (record {
+    → (header scratch room b ≡ Ok (record {
       shape = record { size = h.size; has_idx = h.has_idx; has_crc = h.has_crc; has-list = true };
       off = h.off;
       cells = n;
@@ -192,14 +191,14 @@ header-back {b} scratch room h n l A hz ho hf hc ht hn hm hx hr =
     let A₄ = at_next (be size n) l₂ size A₃ (length-be size n) in
     let A₅ = at_move (6 + 2 * size) (at_next (be size k) l₃ size A₄ (length-be size k)) (omega arith) in
     let A₆ = at_move (6 + 3 * size) (at_next (be size h.absent) l₄ size A₅ (length-be size h.absent)) (omega arith) in
-    let f₀ : field b 0 4 ≡ ok 0xb5ee9c72 = rw (at-chunk (0xb5 ∷ 0xee ∷ 0x9c ∷ 0x72 ∷ []) (flags ∷ off ∷ l₁) 4 A refl) in
-    let f₁ : field b 4 1 ≡ ok flags = field-byte flags (off ∷ l₁) A₁ in
+    let f₀ : field b 0 4 ≡ Ok 0xb5ee9c72 = rw (at-chunk (0xb5 ∷ 0xee ∷ 0x9c ∷ 0x72 ∷ []) (flags ∷ off ∷ l₁) 4 A refl) in
+    let f₁ : field b 4 1 ≡ Ok flags = field-byte flags (off ∷ l₁) A₁ in
     let m = layout-back h.has_idx h.has_crc h.has_cache h.flags size hf hz in
-    let f₂ : field b 5 1 ≡ ok off = field-byte off l₁ A₂ in
-    let f₃ : field b 6 size ≡ ok n = field-be size n l₂ A₃ hc in
-    let f₄ : field b (6 + size) size ≡ ok k = field-be size k l₃ A₄ (omega arith) in
-    let f₅ : field b (6 + 2 * size) size ≡ ok h.absent = field-be size h.absent l₄ A₅ (omega arith) in
-    let f₆ : field b (6 + 3 * size) off ≡ ok h.total = field-be off h.total l A₆ ht in (
+    let f₂ : field b 5 1 ≡ Ok off = field-byte off l₁ A₂ in
+    let f₃ : field b 6 size ≡ Ok n = field-be size n l₂ A₃ hc in
+    let f₄ : field b (6 + size) size ≡ Ok k = field-be size k l₃ A₄ (omega arith) in
+    let f₅ : field b (6 + 2 * size) size ≡ Ok h.absent = field-be size h.absent l₄ A₅ (omega arith) in
+    let f₆ : field b (6 + 3 * size) off ≡ Ok h.total = field-be off h.total l A₆ ht in (
       rw (f₀, f₁, m, le-leb size 4 hz, f₂, le-leb off 8 ho, f₃, f₄, f₅, le-leb (k + h.absent) n hn, le-leb n 4096 hm, le-leb (2 * n) scratch hx, le-leb k room hr, f₆),
       at_next (be off h.total) l off A₆ (length-be off h.total),
     )
@@ -225,7 +224,7 @@ module _ (b : List ℕ) (whole : Bool) (scratch room : ℕ) (h : Head) (cs : Lis
   bag-core : (whole ≡ true → rest ≡ []) → take (cells_at h cs + length (cells_text h.size cs)) b ≡ unsigned h cs → length b ≡ cells_at h cs + length (cells_text h.size cs) + length (sum_text h cs) + length rest
       → At b 0 (be 4 generic_tag ++ (byte4 h ∷ h.off ∷ (be h.size (length cs) ++ (be h.size (length h.roots) ++ (be h.size h.absent ++ (be h.off h.total
       ++ (all_be h.size h.roots ++ (all_be h.off h.index ++ (cells_text h.size cs ++ (sum_text h cs ++ rest))))))))))
-      → bag whole scratch room b ≡ ok (record { used = cells_at h cs + length (cells_text h.size cs) + length (sum_text h cs); cells = map cell_of cs; roots = h.roots })
+      → bag whole scratch room b ≡ Ok (record { used = cells_at h cs + length (cells_text h.size cs) + length (sum_text h cs); cells = map cell_of cs; roots = h.roots })
   unfolding bag root_list index numbers
   bag-core W T N A =
       let size = h.size in
@@ -241,7 +240,7 @@ module _ (b : List ℕ) (whole : Bool) (scratch room : ℕ) (h : Head) (cs : Lis
       let n₂ : length (all_be off h.index) ≡ k * off = length-refs off h.index ∙ rw Q.index in
       let f₁ = refs-back size h.roots l₁ H.1 (λ r m. omega (arith, Q.inside r m, Q.count)) in
       let A₁ = at_next (all_be size h.roots) l₁ (length h.roots * size) H.1 n₁ in
-      let f₂ : fields b off k (p₁ + length h.roots * size) ≡ ok h.index = rw (← Q.index) (refs-back off h.index l₂ A₁ Q.entries) in
+      let f₂ : fields b off k (p₁ + length h.roots * size) ≡ Ok h.index = rw (← Q.index) (refs-back off h.index l₂ A₁ Q.entries) in
       let A₂ = at_next (all_be off h.index) l₂ (k * off) A₁ n₂ in
       let R : (c : RawCell) → Mem c cs → (r : ℕ) → Mem r c.refs → r < 256 ^ size = λ c m r j.
       let t = mem-cells cs c m in
@@ -285,7 +284,7 @@ length-unsigned h cs e =
     )
 
 pub accepted : (whole : Bool) (scratch room : ℕ) (h : Head) (cs : List RawCell) (rest : List ℕ) → Admissible scratch room h cs → (whole ≡ true → rest ≡ [])
-    → bag whole scratch room (serialized h cs ++ rest) ≡ ok (bag_of h cs)
+    → bag whole scratch room (serialized h cs ++ rest) ≡ Ok (bag_of h cs)
 unfolding serialized bag_of unsigned
 accepted whole scratch room h cs rest Q W =
     let n = length-unsigned h cs Q.index in

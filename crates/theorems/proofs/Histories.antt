@@ -2,12 +2,12 @@
 -- Assumes nothing.
 use Rattle.std.proofs.Math.Path.{◌≡◌, refl, sym}
 use Rattle.std.proofs.Common.{ap, ◌∙◌, subst, arith, length-append, take_at}
-use Rattle.std.specs.Prelude.{ℕ, ◌-◌, ◌*◌, ◌/◌, ◌≤◌, ◌<◌, Bool, true, false, take, drop, replicate, leb, ltb}
+use Rattle.std.specs.Prelude.{ℕ, ◌-◌, ◌*◌, ◌/◌, ◌≤◌, ◌<◌, Bool, true, false, take, drop, replicate, leb, ltb, Ok, Err}
 use mathlib.Core.List.{List, [], ◌∷◌, Memᴰ as Mem}
 use Rattle.std.proofs.Math.ListN.{length, length-replicate}
 use borrow.Author.Tests.{ltb-true}
 use Rattle.scheme.specs.Refusals.{STORE, SCRATCH, NOCELL}
-use Rattle.scheme.specs.Res.{Res, bad, ok, then, check, refusal}
+use Rattle.scheme.specs.Res.{Res, then, check, refusal}
 use Rattle.scheme.specs.Cells.{Cell, at, tree}
 use Rattle.scheme.specs.Memory.{cells_of, sized, sound, held, rows, lay_table, lay_bytes}
 use Rattle.scheme.specs.Builder.{Builder}
@@ -68,7 +68,7 @@ module _ (cap : ℕ) (few : cap ≤ 4096) (s : List Cell) (K : Kept cap s) where
   cells-here : cells_of (length s) T D ≡ s
   cells-here = cells-back cap s (wf-kept cap s K)
 
-  held-here : held (length s) T D ≡ ok s
+  held-here : held (length s) T D ≡ Ok s
   unfolding held
   held-here = rw (sound-here, cells-here)
 
@@ -88,16 +88,16 @@ module _ (cap : ℕ) (few : cap ≤ 4096) (s : List Cell) (K : Kept cap s) where
   clear_step = rw (sized-here, capacity-here)
 
   add-out : (r : Res Added) → left (add_out (length s) T D r) ≡ lay cap (added_store s r)
-  add-out (bad r) = refl
-  add-out (ok a) = rw capacity-here
+  add-out (Err r) = refl
+  add-out (Ok a) = rw capacity-here
 
   add_step : (b : Builder) → after (lay cap s) (add-cell b) ≡ lay cap (added_store s (add cap s b))
   unfolding adding
   add_step b = rw (held-here, capacity-here) (add-out (add cap s b))
 
   read_out_lem : (scratch roots : List ℕ) (r : Res Got) → left_read (read_out (length s) T D scratch roots r) ≡ lay cap (got_store s r)
-  read_out_lem scratch roots (bad r) = refl
-  read_out_lem scratch roots (ok g) = rw capacity-here
+  read_out_lem scratch roots (Err r) = refl
+  read_out_lem scratch roots (Ok g) = rw capacity-here
 
   read_step : (whole : Bool) (scratch roots reply : List ℕ) → after (lay cap s) (read-bag whole scratch roots reply) ≡ lay cap (got_store s (read whole (length scratch) (length roots) cap s reply))
   unfolding reading
@@ -109,7 +109,7 @@ module _ (cap : ℕ) (few : cap ≤ 4096) (s : List Cell) (K : Kept cap s) where
   step (read-bag whole scratch roots reply) = read_step whole scratch roots reply
 
   -- the cells that a call works on are those held, and the cell that it names is one of them
-  named : (k root scratch : ℕ) (s' : List Cell) → lent k (length s) T D root scratch ≡ ok s' → (s ≡ s') × (root < length s)
+  named : (k root scratch : ℕ) (s' : List Cell) → lent k (length s) T D root scratch ≡ Ok s' → (s ≡ s') × (root < length s)
   unfolding lent
   named k root scratch s' e =
       then_use (held (length s) T D) _ _ e λ s₁ x₁ e₁.
@@ -128,20 +128,20 @@ module _ (cap : ℕ) (few : cap ≤ 4096) (s : List Cell) (K : Kept cap s) where
     R = then (lent 4 (length s) T D root (length scratch)) λ s. serialized idx crc s root (length out)
 
     -- what a write that is not refused leaves in the output's front
-    wrote : (len : ℕ) → W.answer ≡ ok len → (xs : List ℕ) × (serialized idx crc s root (length out) ≡ ok xs) × (root < length s) × (len ≡ length xs) × (W.out ≡ onto xs out)
+    wrote : (len : ℕ) → W.answer ≡ Ok len → (xs : List ℕ) × (serialized idx crc s root (length out) ≡ Ok xs) × (root < length s) × (len ≡ length xs) × (W.out ≡ onto xs out)
     unfolding writing
     wrote len e = go R refl e
       where
-        go : (r : Res (List ℕ)) → R ≡ r → (write_out scratch out r).answer ≡ ok len
-            → (xs : List ℕ) × (serialized idx crc s root (length out) ≡ ok xs) × (root < length s) × (len ≡ length xs) × ((write_out scratch out R).out ≡ onto xs out)
-        go (bad r) q e = let z : ◌≡◌ {A = ℕ} 0 1 = cc in absurd (omega arith)
-        go (ok xs) q e =
+        go : (r : Res (List ℕ)) → R ≡ r → (write_out scratch out r).answer ≡ Ok len
+            → (xs : List ℕ) × (serialized idx crc s root (length out) ≡ Ok xs) × (root < length s) × (len ≡ length xs) × ((write_out scratch out R).out ≡ onto xs out)
+        go (Err r) q e = let z : ◌≡◌ {A = ℕ} 0 1 = cc in absurd (omega arith)
+        go (Ok xs) q e =
             then_use (lent 4 (length s) T D root (length scratch)) _ _ q λ s₁ x₁ e₁.
             let n = named 4 root (length scratch) s₁ x₁ in
             let z : length xs ≡ len = cc in
             (xs, rw n.0 e₁, n.1, sym z, rw q)
 
-    bag-here : (len : ℕ) → W.answer ≡ ok len → Writes idx crc s root (take len W.out)
+    bag-here : (len : ℕ) → W.answer ≡ Ok len → Writes idx crc s root (take len W.out)
     bag-here len e =
         let w = wrote len e in
         let q : take len W.out ≡ write idx crc s root = front w.0 out W.out len w.4 w.3 ∙ write-inv (length out) idx crc s root w.0 w.1 in
@@ -155,14 +155,14 @@ module _ (cap : ℕ) (few : cap ≤ 4096) (s : List Cell) (K : Kept cap s) where
       abbrev found_here : ℕ → ReadOut
       found_here used = found (lay cap s) used (length (order_of s root)) root scratch' roots
 
-      read_here : (xs : List ℕ) → serialized idx crc s root (length out) ≡ ok xs → root < length s → again xs ≡ found_here (length xs)
+      read_here : (xs : List ℕ) → serialized idx crc s root (length out) ≡ Ok xs → root < length s → again xs ≡ found_here (length xs)
       unfolding reading
       read_here xs e h =
-          let r : read whole (length scratch') (length roots) cap s xs ≡ ok (record { counts = record { used = length xs; cells = length (order_of s root); roots = 1; added = 0 }; names = root ∷ []; store = s }) =
+          let r : read whole (length scratch') (length roots) cap s xs ≡ Ok (record { counts = record { used = length xs; cells = length (order_of s root); roots = 1; added = 0 }; names = root ∷ []; store = s }) =
           rw (write-inv (length out) idx crc s root xs e) (written-reads-back whole (length scratch') (length roots) cap idx crc s K.sound K.fit root h K.room few hx hy) in
           rw (held-here, capacity-here, r, capacity-here)
 
-      back-here : (len : ℕ) → W.answer ≡ ok len → again (take len W.out) ≡ found_here len
+      back-here : (len : ℕ) → W.answer ≡ Ok len → again (take len W.out) ≡ found_here len
       back-here len e =
           let w = wrote len e in
           ap again (front w.0 out W.out len w.4 w.3) ∙ read_here w.0 w.1 w.2 ∙ ap found_here (sym w.3)
@@ -186,11 +186,11 @@ pub record Kept-memory (m : Memory) : Type 0 where
   pub kept : Kept cap store
   pub is : m ≡ lay cap store
 
-cleared-kept : (m : Memory) → (clearing m.count m.table m.bytes).answer ≡ ok tt → Kept-memory (after m clear)
+cleared-kept : (m : Memory) → (clearing m.count m.table m.bytes).answer ≡ Ok tt → Kept-memory (after m clear)
 unfolding clearing
 cleared-kept m e = go (sized m.table m.bytes) refl e
   where
-    go : (b : Bool) → sized m.table m.bytes ≡ b → (clear_out m.count m.table m.bytes (check b (refusal STORE 0))).answer ≡ ok tt → Kept-memory (after m clear)
+    go : (b : Bool) → sized m.table m.bytes ≡ b → (clear_out m.count m.table m.bytes (check b (refusal STORE 0))).answer ≡ Ok tt → Kept-memory (after m clear)
     go false q e = let z : ◌≡◌ {A = ℕ} 0 1 = cc in absurd (omega arith)
     go true q e = record {
       cap = length m.table / 7;

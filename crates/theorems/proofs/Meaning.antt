@@ -1,11 +1,11 @@
 -- Demand 2 (docs/DEMANDS.md), the meaning: an accepted read means what the bag says. The words are in specs/Meaning.
 -- Assumes nothing.
-use Rattle.std.specs.Prelude.{◌≡◌, refl, ℕ, ◌-◌, ◌<◌, Bool, List, map, length, get_or, drop, leb}
+use Rattle.std.specs.Prelude.{◌≡◌, refl, ℕ, ◌-◌, ◌<◌, Bool, List, map, length, get_or, drop, leb, Ok}
 use Rattle.std.proofs.Common.{sym, ap, ◌∙◌, subst, arith, length-append, drop_at}
 use Rattle.std.proofs.lemmas.List.{length-map}
 use Rattle.std.proofs.Math.ListN.{get_or-append}
 use Rattle.scheme.specs.Refusals.{FULL}
-use Rattle.scheme.specs.Res.{ok, check, refusal}
+use Rattle.scheme.specs.Res.{check, refusal}
 use Rattle.scheme.specs.Cells.{Cell, tree}
 use Rattle.scheme.specs.Bag.{Bag, bag, Got, Counts, read, load}
 use Rattle.scheme.specs.Memory.{capacity, cells_of, held, lay_table, lay_bytes}
@@ -21,8 +21,8 @@ use Rattle.theorems.specs.MeaningLaws.{memory-low, held-load, call-taken}
 use Rattle.theorems.specs.Meaning.{Means, CallMeans}
 
 -- Demand 2: an accepted read is of a bag, and means what the bag says, in every store whose references go to lower numbers.
-pub read-means : (whole : Bool) (scratch room cap : ℕ) (s : List Cell) (b : List ℕ) (g : Got) → Low s → Small b → read whole scratch room cap s b ≡ ok g
-    → (a : Bag) × (bag whole scratch room b ≡ ok a) × Means s b a g
+pub read-means : (whole : Bool) (scratch room cap : ℕ) (s : List Cell) (b : List ℕ) (g : Got) → Low s → Small b → read whole scratch room cap s b ≡ Ok g
+    → (a : Bag) × (bag whole scratch room b ≡ Ok a) × Means s b a g
 unfolding read
 read-means whole scratch room cap s b g S B e =
     then_use (bag whole scratch room b) _ _ e λ a x₁ e₁.
@@ -35,7 +35,7 @@ read-means whole scratch room cap s b g S B e =
     } ≡ g = cc in
     (a, x₁, rw (← q) (go a x₁))
   where
-    go : (a : Bag) → bag whole scratch room b ≡ ok a → Means s b a (record {
+    go : (a : Bag) → bag whole scratch room b ≡ Ok a → Means s b a (record {
       counts = record { used = a.used; cells = length a.cells; roots = length a.roots; added = length (load s 0 a.cells).store - length s };
       names = map (λ (r : ℕ). get_or (load s 0 a.cells).nums r 0) a.roots;
       store = (load s 0 a.cells).store;
@@ -63,9 +63,9 @@ read-means whole scratch room cap s b g S B e =
         }
 
 -- the outcome of an accepted call, from what the read in it means
-call-means : (n : ℕ) (t d scratch roots b : List ℕ) (a : Bag) (g : Got) → held n t d ≡ ok (cells_of n t d) → Means (cells_of n t d) b a g
-    → held (length g.store) (lay_table (capacity t) g.store) (lay_bytes (capacity t) g.store) ≡ ok g.store
-    → CallMeans n t d roots b a g.counts (read_out n t d scratch roots (ok g))
+call-means : (n : ℕ) (t d scratch roots b : List ℕ) (a : Bag) (g : Got) → held n t d ≡ Ok (cells_of n t d) → Means (cells_of n t d) b a g
+    → held (length g.store) (lay_table (capacity t) g.store) (lay_bytes (capacity t) g.store) ≡ Ok g.store
+    → CallMeans n t d roots b a g.counts (read_out n t d scratch roots (Ok g))
 call-means n t d scratch roots b a g x M H =
     let s = cells_of n t d in
     let p = M.appends in
@@ -75,7 +75,7 @@ call-means n t d scratch roots b a g x M H =
     record {
       new = M.new;
       before = x;
-      after = H ∙ ap ok p;
+      after = H ∙ ap Ok p;
       keeps = λ i h. rw p at (M.keeps i (omega arith));
       names = λ i h. rw (name i h) (M.held i (omega (arith, M.roots)));
       root = λ i h. rw (name i h) (rw p at (M.root i (omega (arith, M.roots))));
@@ -89,8 +89,8 @@ call-means n t d scratch roots b a g x M H =
     }
 
 -- Demand 2, of the calls with all memory: an accepted deserialize or unpack_fully means what the bag says.
-pub reading-means : (whole : Bool) (n : ℕ) (t d scratch roots b : List ℕ) (c : Counts) → Small b → (reading whole n t d scratch roots b).answer ≡ ok c
-    → (a : Bag) × (bag whole (length scratch) (length roots) b ≡ ok a) × CallMeans n t d roots b a c (reading whole n t d scratch roots b)
+pub reading-means : (whole : Bool) (n : ℕ) (t d scratch roots b : List ℕ) (c : Counts) → Small b → (reading whole n t d scratch roots b).answer ≡ Ok c
+    → (a : Bag) × (bag whole (length scratch) (length roots) b ≡ Ok a) × CallMeans n t d roots b a c (reading whole n t d scratch roots b)
 unfolding held
 reading-means whole n t d scratch roots b c B e =
     let A = call-taken whole n t d scratch roots b c e in
@@ -100,6 +100,6 @@ reading-means whole n t d scratch roots b c B e =
     let M = read-means whole (length scratch) (length roots) (capacity t) (cells_of n t d) b g S B T.reads in
     let I = read-inv whole (length scratch) (length roots) (capacity t) (cells_of n t d) b g B T.reads in
     let H = held-load n t d I.bag.cells T.sound-store I.whole.linked I.whole.fit (rw I.store_is at I.free) g.store I.store_is in
-    let x : held n t d ≡ ok (cells_of n t d) = rw T.sound-store in
+    let x : held n t d ≡ Ok (cells_of n t d) = rw T.sound-store in
     let R = call-means n t d scratch roots b M.0 g x M.2 H in
-    (M.0, M.1, rw T.out (subst (λ (k : Counts). CallMeans n t d roots b M.0 k (read_out n t d scratch roots (ok g))) T.counts R))
+    (M.0, M.1, rw T.out (subst (λ (k : Counts). CallMeans n t d roots b M.0 k (read_out n t d scratch roots (Ok g))) T.counts R))

@@ -1,9 +1,9 @@
 -- The definitions that the code is proved against meet what specs/ShutOut asks, and wrong ones do not. What rests on no theorem of proofs/ is proved there.
 -- Assumes nothing.
-use Rattle.std.specs.Prelude.{◌≡◌, refl, ℕ, zero, suc, ◌≤◌, ◌<◌, Bool, true, false, List, [], ◌∷◌, length, get_or}
+use Rattle.std.specs.Prelude.{◌≡◌, refl, ℕ, zero, suc, ◌≤◌, ◌<◌, Bool, true, false, List, [], ◌∷◌, length, get_or, Err}
 use Rattle.std.proofs.Common.{sym, ap, ◌∙◌, not-suc-le-zero, arith}
 use Rattle.scheme.specs.Refusals.{CRC}
-use Rattle.scheme.specs.Res.{bad, refusal}
+use Rattle.scheme.specs.Res.{refusal}
 use Rattle.scheme.specs.Bytes.{chunk, field}
 use Rattle.scheme.specs.Crc.{crc_step, crc_steps, crc_byte, crc_run, crc_of}
 use Rattle.scheme.specs.Cells.{Cell, blank, with, at}
@@ -35,7 +35,7 @@ unfolding bag header field chunk tag_ok layout root_list index numbers raw_cell 
 sum_ignored_shut_out H =
     let b = empty_bag 0x41 (0 ∷ 0 ∷ 0 ∷ 0 ∷ []) in
     let S = are-small b refl in
-    let e : bag true 2 1 b ≡ bad (refusal CRC 13) = refl in
+    let e : bag true 2 1 b ≡ Err (refusal CRC 13) = refl in
     let h = (reads-grammar true 2 1 b empty_read S).1 ((H true 2 1 b empty_read S).0 refl) in
     no cc
 

@@ -1,11 +1,11 @@
 -- Writing: what is written is the grammar's text of the listing. The words are in specs/Writing.
 -- Assumes nothing.
-use Rattle.std.specs.Prelude.{◌≡◌, refl, ℕ, ◌*◌, ◌≤◌, ◌<◌, Bool, leb, ltb}
+use Rattle.std.specs.Prelude.{◌≡◌, refl, ℕ, ◌*◌, ◌≤◌, ◌<◌, Bool, leb, ltb, Ok, Err}
 use Rattle.std.proofs.Common.{sym, ap, ◌∙◌, arith, leb-true, ltb-true}
 use mathlib.Core.List.{List, [], ◌∷◌, map, append-nil, Memᴰ as Mem}
 use Rattle.std.proofs.Math.ListN.{length}
 use Rattle.std.proofs.lemmas.List.{length-map}
-use Rattle.scheme.specs.Res.{Res, bad, ok, then, check, refusal}
+use Rattle.scheme.specs.Res.{Res, then, check, refusal}
 use Rattle.scheme.specs.Bytes.{width}
 use Rattle.scheme.specs.Cells.{Cell, at}
 use Rattle.scheme.specs.Bag.{bag, read_scratch}
@@ -65,24 +65,24 @@ writes idx sum s root S F most h =
 -- Writing: every reading whose limits allow it accepts what is written, as the listed cells with the first one as the root.
 pub written-is-read : (has_idx has_crc : Bool) (s : List Cell) (root : ℕ) (b : List ℕ) → (W : Writes has_idx has_crc s root b)
     → (whole : Bool) (scratch room : ℕ) → read_scratch (length W.out) ≤ scratch → 1 ≤ room
-    → bag whole scratch room b ≡ ok (record { used = length b; cells = map (bag_cell s W.out) W.out; roots = 0 ∷ [] })
+    → bag whole scratch room b ≡ Ok (record { used = length b; cells = map (bag_cell s W.out) W.out; roots = 0 ∷ [] })
 unfolding bag_of head_for
 written-is-read idx sum s root b W whole scratch room hs hr =
     let cs = listed s W.out in
     let A = accepted whole scratch room (head_for idx sum cs) cs [] (W.admissible scratch room hs hr) (λ w. refl) in
-    let B : bag whole scratch room b ≡ ok (bag_of (head_for idx sum cs) cs) =
+    let B : bag whole scratch room b ≡ Ok (bag_of (head_for idx sum cs) cs) =
     ap (λ (l : List ℕ). bag whole scratch room l) (W.text ∙ sym (append-nil (serialized (head_for idx sum cs) cs))) ∙ A in
-    B ∙ ap ok (λ i. record { used = length (sym W.text i); cells = W.cells i; roots = 0 ∷ [] })
+    B ∙ ap Ok (λ i. record { used = length (sym W.text i); cells = W.cells i; roots = 0 ∷ [] })
 
 -- Writing, of the call with all memory: an accepted serialize puts the text of the listing at the front of the output, and changes nothing behind it.
 pub writing-means : (has_idx has_crc : Bool) (n : ℕ) (t d : List ℕ) (root : ℕ) (scratch out : List ℕ) (len : ℕ) → Small d
-    → (writing has_idx has_crc n t d root scratch out).answer ≡ ok len
+    → (writing has_idx has_crc n t d root scratch out).answer ≡ Ok len
     → CallWrites has_idx has_crc n t d root out len (writing has_idx has_crc n t d root scratch out)
 unfolding writing lent held serialize
 writing-means idx sum n t d root scratch out len B e = go (then (lent 4 n t d root (length scratch)) λ s. serialize idx sum s root (length out)) refl e
   where
-    got : (xs : List ℕ) → then (lent 4 n t d root (length scratch)) (λ s. serialize idx sum s root (length out)) ≡ ok xs → length xs ≡ len
-        → CallWrites idx sum n t d root out len (write_out scratch out (ok xs))
+    got : (xs : List ℕ) → then (lent 4 n t d root (length scratch)) (λ s. serialize idx sum s root (length out)) ≡ Ok xs → length xs ≡ len
+        → CallWrites idx sum n t d root out len (write_out scratch out (Ok xs))
     got xs x q =
         then_use (lent 4 n t d root (length scratch)) _ _ x λ s x₁ e₁.
         then_use (held n t d) _ _ x₁ λ s₁ x₂ e₂.
@@ -100,7 +100,7 @@ writing-means idx sum n t d root scratch out len B e = go (then (lent 4 n t d ro
         let W = writes idx sum (cells_of n t d) root (memory-low n t d sd) (memory-fit n t d sd B) (rw (cells-length n t d) (sound-few n t d sd)) h in
         record { bytes = xs; are = rw q₄ at W; written = sym q; room = rw q₃ at f; front = refl }
 
-    go : (r : Res (List ℕ)) → then (lent 4 n t d root (length scratch)) (λ s. serialize idx sum s root (length out)) ≡ r → (write_out scratch out r).answer ≡ ok len
+    go : (r : Res (List ℕ)) → then (lent 4 n t d root (length scratch)) (λ s. serialize idx sum s root (length out)) ≡ r → (write_out scratch out r).answer ≡ Ok len
         → CallWrites idx sum n t d root out len (writing idx sum n t d root scratch out)
-    go (ok xs) x e = rw x (got xs x (cc))
-    go (bad r) x e = let z : ◌≡◌ {A = ℕ} 0 1 = cc in absurd (omega arith)
+    go (Ok xs) x e = rw x (got xs x (cc))
+    go (Err r) x e = let z : ◌≡◌ {A = ℕ} 0 1 = cc in absurd (omega arith)

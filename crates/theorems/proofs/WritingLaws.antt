@@ -1,6 +1,6 @@
 -- The bytes that are written of a listing.
 -- Assumes nothing.
-use Rattle.std.specs.Prelude.{◌≡◌, refl, ◌≢◌, ℕ, zero, suc, ◌+◌, ◌-◌, ◌*◌, ◌/◌, ◌%◌, ◌^◌, ◌≤◌, ◌<◌, Bool, true, false, cond, not, ◌||◌, ◌&&◌, length, get_or, eqb, ltb}
+use Rattle.std.specs.Prelude.{◌≡◌, refl, ◌≢◌, ℕ, zero, suc, ◌+◌, ◌-◌, ◌*◌, ◌/◌, ◌%◌, ◌^◌, ◌≤◌, ◌<◌, Bool, true, false, cond, not, ◌||◌, ◌&&◌, length, get_or, eqb, ltb, Ok}
 use Rattle.std.proofs.Common.{sym, ap, ◌∙◌, not-suc-le-zero, le_of_suc-le-suc, arith, length-append, eqb-true, eq-eqb, ltb-true}
 use mathlib.Core.List.Memᴰ
 use mathlib.Core.List.Memᴰ.{head as here}
@@ -12,7 +12,7 @@ use Rattle.laws.specs.Tests.{and_left, and_right}
 use Rattle.scheme.specs.Cells.{Cell, at, unfolded, tree, with}
 use Rattle.scheme.specs.Bytes.{be, le, width}
 use Rattle.scheme.specs.Bits.{bit_of, bytes_for, mark, last_of}
-use Rattle.scheme.specs.Res.{Res, ok}
+use Rattle.scheme.specs.Res.{Res}
 use Rattle.scheme.specs.Bag.{Past, raw_cell}
 use Rattle.scheme.specs.Crc.{crc_of}
 use Rattle.scheme.specs.Layout.{generic_tag}
@@ -162,7 +162,7 @@ module _ (c : Cell) (F : Fit c) where
 fit-with : (b : Cell) (rs : List ℕ) → length rs ≤ 4 → Fit b → Fit (with b rs)
 fit-with b rs e F = record { flag = F.flag; few = F.few; many = F.many; small = F.small; clean = F.clean; arity = e }
 
-same-it : (r : Res (Past Cell)) (a b : Past Cell) → r ≡ ok a → r ≡ ok b → a.it ≡ b.it
+same-it : (r : Res (Past Cell)) (a b : Past Cell) → r ≡ Ok a → r ≡ Ok b → a.it ≡ b.it
 same-it r a b p q = let e : a ≡ b = cc in ap (λ (x : Past Cell). x.it) e
 
 alone : (c : Cell) → Fit c → c.refs ≡ [] → cell_of (raw_of c) ≡ c

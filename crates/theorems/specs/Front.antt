@@ -1,6 +1,6 @@
 -- The front of a text of bytes: what is read of it is what is read of the whole text, or a field of it is not whole.
 -- Assumes nothing.
-use Rattle.std.specs.Prelude.{◌≡◌, ℕ, zero, suc, ◌+◌, ◌*◌, ◌/◌, ◌%◌, ◌≤◌, ◌<◌, Bool, cond, length, drop, replicate, eqb}
+use Rattle.std.specs.Prelude.{◌≡◌, ℕ, zero, suc, ◌+◌, ◌*◌, ◌/◌, ◌%◌, ◌≤◌, ◌<◌, Bool, cond, length, drop, replicate, eqb, Ok, Err}
 use Rattle.std.proofs.Math.Path.{refl}
 use Rattle.std.proofs.Common.{sym, ap, ◌∙◌, arith, length-take-le}
 use Rattle.std.proofs.Math.Bool.{true, false}
@@ -10,7 +10,7 @@ use Rattle.std.proofs.Math.Seq.{take-take}
 use Rattle.std.proofs.Math.Dec.{leb}
 use borrow.Author.Tests.{leb-true, leb-false, le-leb, lt-leb}
 use Rattle.scheme.specs.Refusals.{CUT, SIZE, OFFSET, COUNTS, CELLS, SCRATCH, ROOTROOM, REFS, CRC}
-use Rattle.scheme.specs.Res.{Res, bad, ok, then, check, refusal}
+use Rattle.scheme.specs.Res.{Res, then, check, refusal}
 use Rattle.scheme.specs.Bytes.{unbe, chunk, field, fields, unle}
 use Rattle.scheme.specs.Bag.{hashes, bits, raw_cell, Past, Header, header, numbers, checksum, read_scratch}
 use Rattle.scheme.specs.Layout.{layout, tag_ok}
@@ -49,8 +49,8 @@ cut-second (u ∷ us) vs k p h =
 
 -- x is what is read of the first k bytes by fields of the widths ws from place p on, where the whole text gives a
 pub data Front {A : Type 0} (k p : ℕ) (ws : List ℕ) (a : A) (x : Res A) : Type 0 where
-  within : p + total ws ≤ k → x ≡ ok a → Front k p ws a x
-  past : k < p + total ws → x ≡ bad (refusal CUT (cut_place p k ws)) → Front k p ws a x
+  within : p + total ws ≤ k → x ≡ Ok a → Front k p ws a x
+  past : k < p + total ws → x ≡ Err (refusal CUT (cut_place p k ws)) → Front k p ws a x
 
 pub front-then : {A B : Type 0} {k p : ℕ} {us : List ℕ} (vs : List ℕ) (q : ℕ) {a : A} {c : B} {x : Res A} (f : A → Res B)
     → Front k p us a x → q ≡ p + total us → (q ≤ k → Front k q vs c (f a)) → Front k p (us ++ vs) c (then x f)
@@ -62,11 +62,11 @@ front-then {k = k} {p} {us} vs q {a} {c} f (within h e) eq F = rw e (go (F (omeg
     go (past g y) = past (omega (arith, total-append us vs)) (rw (cut-second us vs k p (omega arith), ← eq) y)
 
 -- a step that takes no field
-pub front-ok : {A B : Type 0} {k p : ℕ} {vs : List ℕ} {a : A} {c : B} {x : Res A} (f : A → Res B) → x ≡ ok a → Front k p vs c (f a) → Front k p vs c (then x f)
+pub front-ok : {A B : Type 0} {k p : ℕ} {vs : List ℕ} {a : A} {c : B} {x : Res A} (f : A → Res B) → x ≡ Ok a → Front k p vs c (f a) → Front k p vs c (then x f)
 front-ok f e F = rw e F
 
 -- a last step that takes no field
-pub front-last : {A B : Type 0} {k p : ℕ} {us : List ℕ} {a : A} {c : B} {x : Res A} (f : A → Res B) → Front k p us a x → f a ≡ ok c → Front k p us c (then x f)
+pub front-last : {A B : Type 0} {k p : ℕ} {us : List ℕ} {a : A} {c : B} {x : Res A} (f : A → Res B) → Front k p us a x → f a ≡ Ok c → Front k p us c (then x f)
 front-last f (within h e) y = within h (rw e y)
 front-last f (past h e) y = past h (rw e)
 
@@ -81,13 +81,13 @@ take-drop-take n (suc p) zero b h = absurd (omega arith)
 take-drop-take n (suc p) (suc k) [] h = refl
 take-drop-take n (suc p) (suc k) (x ∷ b) h = take-drop-take n p k b (omega arith)
 
-pub chunk-is : (b : List ℕ) (p n : ℕ) (xs : List ℕ) → chunk b p n ≡ ok xs → (p + n ≤ length b) × (xs ≡ take n (drop p b))
+pub chunk-is : (b : List ℕ) (p n : ℕ) (xs : List ℕ) → chunk b p n ≡ Ok xs → (p + n ≤ length b) × (xs ≡ take n (drop p b))
 unfolding chunk
 chunk-is b p n xs e =
     then_use (check (leb (p + n) (length b)) (refusal CUT p)) _ _ e λ u c e₁.
     (leb-true (p + n) (length b) (check_inv (leb (p + n) (length b)) (refusal CUT p) u c), cc)
 
-pub field_is : (b : List ℕ) (p n x : ℕ) → field b p n ≡ ok x → (p + n ≤ length b) × (x ≡ number_at b p n)
+pub field_is : (b : List ℕ) (p n x : ℕ) → field b p n ≡ Ok x → (p + n ≤ length b) × (x ≡ number_at b p n)
 unfolding field
 field_is b p n x e =
     then_use (chunk b p n) _ _ e λ xs c e₁.
@@ -96,7 +96,7 @@ field_is b p n x e =
     (r.0, q ∙ ap (unbe 0) r.1)
 
 -- the place behind a cell is where its last field ends
-pub cell-next : (b : List ℕ) (size p : ℕ) (c : Past Cell) → raw_cell b size p ≡ ok c → c.next ≡ p + total (cell_fields b size p)
+pub cell-next : (b : List ℕ) (size p : ℕ) (c : Past Cell) → raw_cell b size p ≡ Ok c → c.next ≡ p + total (cell_fields b size p)
 unfolding raw_cell cell_fields
 cell-next b size p c e =
     then_use (field b p 1) _ _ e λ d1 x₁ e₁.
@@ -122,7 +122,7 @@ pub record HeaderIs (b : List ℕ) (h : Header) : Type 0 where
   pub roots-is : h.roots ≡ roots_in b
   pub next-is : h.next ≡ 6 + 3 * h.shape.size + h.off
 
-pub header_is : (scratch room : ℕ) (b : List ℕ) (h : Header) → header scratch room b ≡ ok h → HeaderIs b h
+pub header_is : (scratch room : ℕ) (b : List ℕ) (h : Header) → header scratch room b ≡ Ok h → HeaderIs b h
 unfolding header layout
 header_is scratch room b h e =
     then_use (field b 0 4) _ _ e λ tag x₁ e₁.
@@ -157,7 +157,7 @@ header_is scratch room b h e =
     })
 
 module _ (k : ℕ) (b : List ℕ) (h : k ≤ length b) where
-  pub front-chunk : (p n : ℕ) (xs : List ℕ) → chunk b p n ≡ ok xs → Front k p (n ∷ []) xs (chunk (take k b) p n)
+  pub front-chunk : (p n : ℕ) (xs : List ℕ) → chunk b p n ≡ Ok xs → Front k p (n ∷ []) xs (chunk (take k b) p n)
   unfolding chunk
   front-chunk p n xs e = go (leb (p + n) k) refl
     where
@@ -165,18 +165,18 @@ module _ (k : ℕ) (b : List ℕ) (h : k ≤ length b) where
       go true y =
           let g = leb-true (p + n) k y in
           let r = chunk-is b p n xs e in
-          within (omega arith) (rw (length-take-le k b h, y, take-drop-take n p k b g) (ap ok (sym r.1)))
+          within (omega arith) (rw (length-take-le k b h, y, take-drop-take n p k b g) (ap Ok (sym r.1)))
       go false y =
           let g = leb-false (p + n) k y in
           past (omega arith) (rw (length-take-le k b h, y))
 
-  pub front-field : (p n x : ℕ) → field b p n ≡ ok x → Front k p (n ∷ []) x (field (take k b) p n)
+  pub front-field : (p n x : ℕ) → field b p n ≡ Ok x → Front k p (n ∷ []) x (field (take k b) p n)
   unfolding field
   front-field p n x e =
       then_use (chunk b p n) _ _ e λ xs c e₁.
       front-last _ (front-chunk p n xs c) e₁
 
-  pub front-fields : (w n p : ℕ) (xs : List ℕ) → fields b w n p ≡ ok xs → p ≤ k → Front k p (replicate n w) xs (fields (take k b) w n p)
+  pub front-fields : (w n p : ℕ) (xs : List ℕ) → fields b w n p ≡ Ok xs → p ≤ k → Front k p (replicate n w) xs (fields (take k b) w n p)
   front-fields w zero p xs e g = within (omega arith) e
   front-fields w (suc n) p xs e g =
       then_use (field b p w) _ _ e λ y ey e₁.
@@ -184,7 +184,7 @@ module _ (k : ℕ) (b : List ℕ) (h : k ≤ length b) where
       front-then (replicate n w) (p + w) _ (front-field p w y ey) (omega arith) λ j.
       front-last _ (front-fields w n (p + w) ys es j) e₂
 
-  pub front-cell : (size p : ℕ) (c : Past Cell) → raw_cell b size p ≡ ok c → Front k p (cell_fields b size p) c (raw_cell (take k b) size p)
+  pub front-cell : (size p : ℕ) (c : Past Cell) → raw_cell b size p ≡ Ok c → Front k p (cell_fields b size p) c (raw_cell (take k b) size p)
   unfolding raw_cell cell_fields
   front-cell size p c e =
       then_use (field b p 1) _ _ e λ d1 x₁ e₁.
@@ -205,7 +205,7 @@ module _ (k : ℕ) (b : List ℕ) (h : k ≤ length b) where
       front-ok _ x₆
       (front-last _ (front-fields size (d1 % 8) (p + 2 + hashes d1 + (d2 + 1) / 2) rs x₇ h₄) e₇)))
 
-  pub front-header : (scratch room : ℕ) (c : Header) → header scratch room b ≡ ok c
+  pub front-header : (scratch room : ℕ) (c : Header) → header scratch room b ≡ Ok c
       → Front k 0 (4 ∷ 1 ∷ 1 ∷ c.shape.size ∷ c.shape.size ∷ c.shape.size ∷ c.off ∷ []) c (header scratch room (take k b))
   unfolding header
   front-header scratch room c e =
@@ -241,19 +241,19 @@ module _ (k : ℕ) (b : List ℕ) (h : k ≤ length b) where
       (front-ok _ x₁₃
       (front-last _ (front-field (6 + 3 * l.size) off sum x₁₄) refl))))))))
 
-  pub front-numbers : (w n p : ℕ) (c : Past (List ℕ)) → numbers b w n p ≡ ok c → p ≤ k → Front k p (replicate n w) c (numbers (take k b) w n p)
+  pub front-numbers : (w n p : ℕ) (c : Past (List ℕ)) → numbers b w n p ≡ Ok c → p ≤ k → Front k p (replicate n w) c (numbers (take k b) w n p)
   unfolding numbers
   front-numbers w n p c e g =
       then_use (fields b w n p) _ _ e λ xs x₁ e₁.
       front-last _ (front-fields w n p xs x₁ g) e₁
 
-  pub front-sum : (has : Bool) (p end : ℕ) → checksum has b p ≡ ok end → p ≤ k → Front k p (cond has (4 ∷ []) []) end (checksum has (take k b) p)
+  pub front-sum : (has : Bool) (p end : ℕ) → checksum has b p ≡ Ok end → p ≤ k → Front k p (cond has (4 ∷ []) []) end (checksum has (take k b) p)
   unfolding checksum
   front-sum false p end e g = within (omega arith) e
   front-sum true p end e g =
       then_use (chunk b p 4) _ _ e λ xs x₁ e₁.
       then_use (check (eqb (unle xs) (crc_of (take p b))) (refusal CRC p)) _ _ e₁ λ u x₂ e₂.
       let same : take p (take k b) ≡ take p b = take-take p k b g in
-      let x₃ : check (eqb (unle xs) (crc_of (take p (take k b)))) (refusal CRC p) ≡ ok u = rw same x₂ in
+      let x₃ : check (eqb (unle xs) (crc_of (take p (take k b)))) (refusal CRC p) ≡ Ok u = rw same x₂ in
       front-then [] (p + 4) _ (front-chunk p 4 xs x₁) refl λ j.
       front-ok _ x₃ (within (omega arith) e₂)

@@ -1,13 +1,13 @@
 -- The bytes of a bag that is accepted are a text of the grammar.
 -- Assumes nothing.
-use Rattle.std.specs.Prelude.{◌≡◌, refl, ℕ, ◌+◌, ◌*◌, ◌/◌, ◌%◌, ◌^◌, ◌≤◌, ◌<◌, Bool, true, false, cond, not, ◌||◌, length, take, drop, eqb, leb}
+use Rattle.std.specs.Prelude.{◌≡◌, refl, ℕ, ◌+◌, ◌*◌, ◌/◌, ◌%◌, ◌^◌, ◌≤◌, ◌<◌, Bool, true, false, cond, not, ◌||◌, length, take, drop, eqb, leb, Ok}
 use Rattle.std.proofs.Common.{sym, ap, ◌∙◌, arith, length-append, length-drop, drop_of_length-le, leb-true, eqb-true}
 use mathlib.Core.List.{List, [], ◌∷◌, ◌++◌, append_assoc, Memᴰ as Mem}
 use Rattle.std.proofs.lemmas.List.{length-map}
 use Rattle.std.proofs.Math.Seq.{take-append_seam}
 use Rattle.scheme.specs.Limits.{max_cells}
 use Rattle.scheme.specs.Refusals.{TAG, INDEXED, SIZE, OFFSET, COUNTS, CELLS, SCRATCH, ROOTROOM, CRC, EXTRA}
-use Rattle.scheme.specs.Res.{ok, check, refusal}
+use Rattle.scheme.specs.Res.{check, refusal}
 use Rattle.scheme.specs.Bytes.{be, le, unle, chunk, field, fields}
 use Rattle.scheme.specs.Bits.{bit_of}
 use Rattle.scheme.specs.Crc.{crc_of}
@@ -30,7 +30,7 @@ stands-front {b} {w} {p} A =
     go : (r : List ℕ) → b ≡ w ++ r → length w ≡ p → take p b ≡ w
     go r e n = rw (e, ← n) (take-append_seam w r)
 
-tag_of : (tag : ℕ) (u : Unit {0}) → tag_ok tag ≡ ok u → tag ≡ generic_tag
+tag_of : (tag : ℕ) (u : Unit {0}) → tag_ok tag ≡ Ok u → tag ≡ generic_tag
 unfolding tag_ok
 tag_of tag u e =
     then_use (check (eqb tag generic_tag || (eqb tag indexed_tag || eqb tag indexed_crc_tag)) (refusal TAG 0)) _ _ e λ v x₁ e₁.
@@ -53,7 +53,7 @@ pub record HeadText (scratch room : ℕ) (b : List ℕ) (h : Header) : Type 0 wh
   pub roots-lent : h.roots ≤ room
   pub stands : Stands b 0 (be 4 generic_tag ++ (flags ∷ h.off ∷ (be h.shape.size h.cells ++ (be h.shape.size h.roots ++ (be h.shape.size absent ++ be h.off sum))))) h.next
 
-pub head-text : (scratch room : ℕ) (b : List ℕ) → Small b → (h : Header) → header scratch room b ≡ ok h → HeadText scratch room b h
+pub head-text : (scratch room : ℕ) (b : List ℕ) → Small b → (h : Header) → header scratch room b ≡ Ok h → HeadText scratch room b h
 unfolding header
 head-text scratch room b S h e =
     then_use (field b 0 4) _ _ e λ tag x₁ e₁.
@@ -115,7 +115,7 @@ unfolding layout
 byte-sum l f h e = rw e (eqb-true _ _ (all_below-true 256 (λ f. byte_test f) byte_tests f h))
 
 -- numbers, root list and index that were read
-numbers-text : (b : List ℕ) → Small b → (k n p : ℕ) (c : Past (List ℕ)) → p ≤ length b → numbers b k n p ≡ ok c
+numbers-text : (b : List ℕ) → Small b → (k n p : ℕ) (c : Past (List ℕ)) → p ≤ length b → numbers b k n p ≡ Ok c
     → (length c.it ≡ n) × ((x : ℕ) → Mem x c.it → x < 256 ^ k) × Stands b p (all_be k c.it) c.next
 unfolding numbers
 numbers-text b S k n p c h e =
@@ -123,16 +123,16 @@ numbers-text b S k n p c h e =
     let q : record { it = xs; next = p + n * k } ≡ c = cc in
     rw (← q) (fields-text b S k n p xs h x₁)
 
-roots-text : (b : List ℕ) → Small b → (h : Header) (c : Past (List ℕ)) → h.shape.has-list ≡ true → h.next ≤ length b → root_list b h ≡ ok c
+roots-text : (b : List ℕ) → Small b → (h : Header) (c : Past (List ℕ)) → h.shape.has-list ≡ true → h.next ≤ length b → root_list b h ≡ Ok c
     → (length c.it ≡ h.roots) × Stands b h.next (all_be h.shape.size c.it) c.next
 unfolding root_list
 roots-text b S h c l w e =
-    let x : numbers b h.shape.size h.roots h.next ≡ ok c = rw l at e in
+    let x : numbers b h.shape.size h.roots h.next ≡ Ok c = rw l at e in
     let r = numbers-text b S h.shape.size h.roots h.next c w x in
     (r.0, r.2)
 
 -- the checksum that was read
-sum-text : (b : List ℕ) → Small b → (has : Bool) (p end : ℕ) (w : List ℕ) → Stands b 0 w p → checksum has b p ≡ ok end → Stands b p (cond has (le 4 (crc_of w)) []) end
+sum-text : (b : List ℕ) → Small b → (has : Bool) (p end : ℕ) (w : List ℕ) → Stands b 0 w p → checksum has b p ≡ Ok end → Stands b p (cond has (le 4 (crc_of w)) []) end
 unfolding checksum
 sum-text b S false p end w A e = let q : p ≡ end = cc in rw (← q) (stands-none b p A.within)
 sum-text b S true p end w A e =
@@ -172,7 +172,7 @@ module _ (whole : Bool) (scratch room : ℕ) (b : List ℕ) (S : Small b) (h : H
       rw (byte-is, R.many, n) (simp append_assoc at F)
 
   head-fine : length rs.it ≡ h.roots → length es.it ≡ cond h.shape.has_idx h.cells 0 → ((x : ℕ) → Mem x es.it → x < 256 ^ h.off)
-      → (u v : Unit {0}) → links 0 h.cells cs.it ≡ ok u → roots_ok 0 h.cells rs.it ≡ ok v → Admissible scratch room head_of R.raws
+      → (u v : Unit {0}) → links 0 h.cells cs.it ≡ Ok u → roots_ok 0 h.cells rs.it ≡ Ok v → Admissible scratch room head_of R.raws
   head-fine n m E u v x y =
       let k : length R.raws ≡ h.cells = R.many in
       let j : length cs.it ≡ length R.raws = ap length (sym R.is) ∙ length-map R.raws cell_of in
@@ -198,7 +198,7 @@ module _ (whole : Bool) (scratch room : ℕ) (b : List ℕ) (S : Small b) (h : H
       }
 
 -- a bag that is accepted is a text of the grammar
-pub parsed : (whole : Bool) (scratch room : ℕ) (b : List ℕ) (g : Bag) → Small b → bag whole scratch room b ≡ ok g → Says whole scratch room b g
+pub parsed : (whole : Bool) (scratch room : ℕ) (b : List ℕ) (g : Bag) → Small b → bag whole scratch room b ≡ Ok g → Says whole scratch room b g
 unfolding bag index serialized bag_of layout
 parsed whole scratch room b g S e =
     then_use (header scratch room b) _ _ e λ h x₁ e₁.

@@ -1,6 +1,6 @@
 -- What is read is written in the bytes that were read: fields, cells and the header of a text that is accepted, as texts of the grammar.
 -- Assumes nothing.
-use Rattle.std.specs.Prelude.{◌≡◌, ◌≢◌, ℕ, zero, suc, ◌+◌, ◌-◌, ◌*◌, ◌/◌, ◌%◌, ◌^◌, ◌≤◌, ◌<◌, Bool, true, false, cond, not, ◌&&◌, drop, eqb, leb}
+use Rattle.std.specs.Prelude.{◌≡◌, ◌≢◌, ℕ, zero, suc, ◌+◌, ◌-◌, ◌*◌, ◌/◌, ◌%◌, ◌^◌, ◌≤◌, ◌<◌, Bool, true, false, cond, not, ◌&&◌, drop, eqb, leb, Ok}
 use Rattle.std.proofs.Math.Path.{refl}
 use Rattle.std.proofs.Common.{sym, ap, ◌∙◌, take-append-drop, drop-drop}
 use native.Mathlib.Omega.{arith}
@@ -11,7 +11,7 @@ use Rattle.std.proofs.Math.ListN.{length}
 use borrow.Author.Tests.{leb-true, eqb-true, eqb-false, not-true}
 use Rattle.scheme.specs.Limits.{max_refs}
 use Rattle.scheme.specs.Refusals.{REFS, PADDING}
-use Rattle.scheme.specs.Res.{ok, check, refusal}
+use Rattle.scheme.specs.Res.{check, refusal}
 use Rattle.scheme.specs.Bytes.{be, unbe, le, unle, chunk, field, fields}
 use Rattle.scheme.specs.Bits.{bit_of, last_of, zeros, unmark}
 use Rattle.scheme.specs.Cells.{Cell}
@@ -72,13 +72,13 @@ pub stands-none : (b : List ℕ) (p : ℕ) → p ≤ length b → Stands b p [] 
 stands-none b p h = record { within = h; is = refl }
 
 module _ (b : List ℕ) (S : Small b) where
-  pub chunk-text : (p n : ℕ) (xs : List ℕ) → chunk b p n ≡ ok xs → (length xs ≡ n) × Small xs × Stands b p xs (p + n)
+  pub chunk-text : (p n : ℕ) (xs : List ℕ) → chunk b p n ≡ Ok xs → (length xs ≡ n) × Small xs × Stands b p xs (p + n)
   chunk-text p n xs e =
       let r = chunk-is b p n xs e in
       let i = chunk-inv b p n xs e S in
       (i.0, i.1, record { within = r.0; is = sym (take-append-drop n (drop p b)) ∙ rw (drop-drop n p b, r.1) })
 
-  pub field-text : (p n x : ℕ) → field b p n ≡ ok x → (x < 256 ^ n) × Stands b p (be n x) (p + n)
+  pub field-text : (p n x : ℕ) → field b p n ≡ Ok x → (x < 256 ^ n) × Stands b p (be n x) (p + n)
   unfolding field
   field-text p n x e =
       then_use (chunk b p n) _ _ e λ xs c e₁.
@@ -89,7 +89,7 @@ module _ (b : List ℕ) (S : Small b) where
       go : (xs : List ℕ) → length xs ≡ n → Small xs → Stands b p xs (p + n) → unbe 0 xs ≡ x → (x < 256 ^ n) × Stands b p (be n x) (p + n)
       go xs l T A q = rw (← q, ← l) (unbe-bound xs T, rw (be-unbe xs T, l) A)
 
-  pub fields-text : (k n p : ℕ) (xs : List ℕ) → p ≤ length b → fields b k n p ≡ ok xs → (length xs ≡ n) × ((x : ℕ) → Mem x xs → x < 256 ^ k) × Stands b p (all_be k xs) (p + n * k)
+  pub fields-text : (k n p : ℕ) (xs : List ℕ) → p ≤ length b → fields b k n p ≡ Ok xs → (length xs ≡ n) × ((x : ℕ) → Mem x xs → x < 256 ^ k) × Stands b p (all_be k xs) (p + n * k)
   fields-text k zero p xs h e =
       let q : [] ≡ xs = cc in
       let z : p + 0 * k ≡ p = omega arith in
@@ -155,7 +155,7 @@ pub record CellText (b : List ℕ) (size p : ℕ) (c : Past Cell) : Type 0 where
   pub stands : Stands b p (cell_text size raw) c.next
 
 -- what the data bytes stand for
-bits_of_lem : (odd : Bool) (q : ℕ) (xs : List ℕ) (w : Bits) → bits odd q xs ≡ ok w
+bits_of_lem : (odd : Bool) (q : ℕ) (xs : List ℕ) (w : Bits) → bits odd q xs ≡ Ok w
     → (cond odd (8 * length xs - 1 - zeros 8 (last_of xs)) (8 * length xs) ≡ w.len) × (cond odd (unmark (zeros 8 (last_of xs)) xs) xs ≡ w.bytes) × (odd ≡ true → last_of xs ≡ 0 → ⊥)
 unfolding bits
 bits_of_lem false q xs w e = (cc, cc, λ o. let z : ◌≡◌ {A = ℕ} 0 1 = cc in absurd (omega arith))
@@ -171,7 +171,7 @@ module _ (b : List ℕ) (S : Small b) (size p : ℕ) (d1 d2 : ℕ) (hs xs rs : L
   raw_of = record { exotic = d1 / 8 % 2; level = d1 / 32; has-hashes = eqb (d1 / 16 % 2) 1; hashes = hs; completed = odd; content = xs; refs = rs }
 
   cell_parts : d1 < 256 → d2 < 256 → d1 % 8 ≤ 4 → length hs ≡ hashes d1 → Small hs → length xs ≡ (d2 + 1) / 2 → Small xs → length rs ≡ d1 % 8
-      → bits odd (p + 2 + hashes d1) xs ≡ ok w
+      → bits odd (p + 2 + hashes d1) xs ≡ Ok w
       → RawCellOk raw_of × (cell_of raw_of ≡ record { exotic = d1 / 8 % 2; len = w.len; bytes = w.bytes; refs = rs }) × (refs_descriptor raw_of ≡ d1) × (bits_descriptor raw_of ≡ d2)
   unfolding cell_of refs_descriptor bits_descriptor
   cell_parts h₁ h₂ few n₁ s₁ n₂ s₂ n₃ e =
@@ -194,7 +194,7 @@ module _ (b : List ℕ) (S : Small b) (size p : ℕ) (d1 d2 : ℕ) (hs xs rs : L
       )
 
 module _ (b : List ℕ) (S : Small b) where
-  pub byte-text : (p x : ℕ) → field b p 1 ≡ ok x → (x < 256) × Stands b p (x ∷ []) (p + 1)
+  pub byte-text : (p x : ℕ) → field b p 1 ≡ Ok x → (x < 256) × Stands b p (x ∷ []) (p + 1)
   byte-text p x e =
       let f = field-text b S p 1 x e in
       let h : x < 256 = omega (arith, f.0) in
@@ -202,7 +202,7 @@ module _ (b : List ℕ) (S : Small b) where
       let A : Stands b p (x % 256 ∷ []) (p + 1) = f.1 in
       (h, rw q at A)
 
-  pub cell-text : (size p : ℕ) (c : Past Cell) → raw_cell b size p ≡ ok c → CellText b size p c
+  pub cell-text : (size p : ℕ) (c : Past Cell) → raw_cell b size p ≡ Ok c → CellText b size p c
   unfolding raw_cell cell_text
   cell-text size p c e =
       then_use (field b p 1) _ _ e λ d1 x₁ e₁.
@@ -240,7 +240,7 @@ module _ (b : List ℕ) (S : Small b) where
     pub is : map cell_of raws ≡ c.it
     pub stands : Stands b p (cells_text size raws) c.next
 
-  pub cells-text : (size n p : ℕ) (c : Past (List Cell)) → p ≤ length b → raw_cells b size n p ≡ ok c → CellsText size n p c
+  pub cells-text : (size n p : ℕ) (c : Past (List Cell)) → p ≤ length b → raw_cells b size n p ≡ Ok c → CellsText size n p c
   cells-text size zero p c h e =
       let q : record { it = []; next = p } ≡ c = cc in
       rw (← q) (record { raws = []; many = refl; fine = λ r m. elim m [ ]; is = refl; stands = stands-none b p h })

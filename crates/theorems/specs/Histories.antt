@@ -2,10 +2,9 @@
 -- The theorem is in proofs/Histories.
 -- Assumes nothing.
 use Rattle.std.proofs.Math.Path.{◌≡◌}
-use Rattle.std.specs.Prelude.{◌↔◌, ℕ, ◌*◌, ◌≤◌, ◌<◌, Bool, true, take}
+use Rattle.std.specs.Prelude.{◌↔◌, ℕ, ◌*◌, ◌≤◌, ◌<◌, Bool, true, take, Ok}
 use mathlib.Core.List.{List, [], ◌∷◌, Memᴰ as Mem}
 use Rattle.std.proofs.Math.ListN.{length}
-use Rattle.scheme.specs.Res.{ok}
 use Rattle.scheme.specs.Cells.{Cell, at, tree}
 use Rattle.scheme.specs.Memory.{cells_of, sound}
 use Rattle.scheme.specs.Builder.{Builder}
@@ -53,13 +52,13 @@ TypedCall (read-bag whole scratch roots reply) = Small reply
 
 -- memory that calls made, from a clearing that was accepted on; `leaves` says what a call leaves
 pub data Reached (leaves : Memory → Call → Memory) : Memory → Type 0 where
-  cleared : (m : Memory) → (clearing m.count m.table m.bytes).answer ≡ ok tt → Reached leaves (leaves m clear)
+  cleared : (m : Memory) → (clearing m.count m.table m.bytes).answer ≡ Ok tt → Reached leaves (leaves m clear)
   called : (m : Memory) (c : Call) → Reached leaves m → TypedCall c → Reached leaves (leaves m c)
 
 -- what a read answers that finds root, and the k cells that it reaches, in the store already
 abbrev pub found : Memory → ℕ → ℕ → ℕ → List ℕ → List ℕ → ReadOut
 found m used k root scratch roots = record {
-  answer = ok (record { used = used; cells = k; roots = 1; added = 0 });
+  answer = Ok (record { used = used; cells = k; roots = 1; added = 0 });
   count = m.count;
   table = m.table;
   bytes = m.bytes;
@@ -79,11 +78,11 @@ pub record Demand3 (m : Memory) : Type 0 where
   pub lists : (root : ℕ) → root < m.count → Listing (cells m) root (order_of (cells m) root)
   -- if the writer does not refuse, what it wrote is the bag of that listing (Writing)
   pub bag : (root : ℕ) (has_idx has_crc : Bool) (scratch out : List ℕ) (len : ℕ)
-      → (writing has_idx has_crc m.count m.table m.bytes root scratch out).answer ≡ ok len
+      → (writing has_idx has_crc m.count m.table m.bytes root scratch out).answer ≡ Ok len
       → Writes has_idx has_crc (cells m) root (take len (writing has_idx has_crc m.count m.table m.bytes root scratch out).out)
   -- and reading it back into the same store answers that number as the only root and adds no cell
   pub back : (root : ℕ) (has_idx has_crc : Bool) (scratch out : List ℕ) (len : ℕ)
-      → (writing has_idx has_crc m.count m.table m.bytes root scratch out).answer ≡ ok len
+      → (writing has_idx has_crc m.count m.table m.bytes root scratch out).answer ≡ Ok len
       → (whole : Bool) (scratch' roots : List ℕ) → 2 * length (order_of (cells m) root) ≤ length scratch' → 1 ≤ length roots
       → reading whole m.count m.table m.bytes scratch' roots (take len (writing has_idx has_crc m.count m.table m.bytes root scratch out).out)
       ≡ found m len (length (order_of (cells m) root)) root scratch' roots

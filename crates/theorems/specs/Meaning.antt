@@ -1,8 +1,7 @@
 -- Demand 2 (docs/DEMANDS.md), the meaning of a read: an accepted read only appends, and each root place names a cell of the structure that the bag's root has.
 -- The theorems are in proofs/Meaning.
 -- Assumes nothing.
-use Rattle.std.specs.Prelude.{◌≡◌, ℕ, ◌+◌, ◌-◌, ◌≤◌, ◌<◌, List, ◌++◌, length, get_or, drop}
-use Rattle.scheme.specs.Res.{ok}
+use Rattle.std.specs.Prelude.{◌≡◌, ℕ, ◌+◌, ◌-◌, ◌≤◌, ◌<◌, List, ◌++◌, length, get_or, drop, Ok}
 use Rattle.scheme.specs.Cells.{Cell, tree}
 use Rattle.scheme.specs.Bag.{Bag, Got, Counts}
 use Rattle.scheme.specs.Memory.{cells_of, held}
@@ -32,8 +31,8 @@ pub record Means (s : List Cell) (b : List ℕ) (a : Bag) (g : Got) : Type 0 whe
 pub record CallMeans (n : ℕ) (t d roots b : List ℕ) (a : Bag) (c : Counts) (out : ReadOut) : Type 0 where
   -- the memory was a sound store's; afterwards it is one that holds the cells before, and new ones behind them
   pub new : List Cell
-  pub before : held n t d ≡ ok (cells_of n t d)
-  pub after : held out.count out.table out.bytes ≡ ok (cells_of n t d ++ new)
+  pub before : held n t d ≡ Ok (cells_of n t d)
+  pub after : held out.count out.table out.bytes ≡ Ok (cells_of n t d ++ new)
   pub keeps : (i : ℕ) → i < n → tree (cells_of n t d ++ new) i ≡ tree (cells_of n t d) i
   -- root place i names a cell that unfolds to what root i unfolds to in the bag; the root places behind are as they were
   pub names : (i : ℕ) → i < c.roots → get_or out.roots i 0 < out.count

@@ -1,6 +1,6 @@
 -- The memory of a store before and after a read: references go to lower numbers, and what was loaded is held.
 -- Assumes nothing.
-use Rattle.std.specs.Prelude.{◌≡◌, refl, ◌≢◌, ℕ, zero, suc, ◌+◌, ◌-◌, ◌*◌, ◌/◌, ◌%◌, ◌^◌, ◌≤◌, ◌<◌, Bool, true, length, get_or, drop}
+use Rattle.std.specs.Prelude.{◌≡◌, refl, ◌≢◌, ℕ, zero, suc, ◌+◌, ◌-◌, ◌*◌, ◌/◌, ◌%◌, ◌^◌, ◌≤◌, ◌<◌, Bool, true, length, get_or, drop, Ok, Err}
 use Rattle.std.proofs.Common.{◌∙◌, arith}
 use mathlib.Core.List.Memᴰ.{head as here}
 use mathlib.Core.List.Memᴰ.{tail as there}
@@ -11,7 +11,7 @@ use Rattle.scheme.specs.Bag.{link, load, Got, Counts, read}
 use Rattle.scheme.specs.Calls.{read_out, reading}
 use Rattle.scheme.specs.Refusals.{STORE}
 use Rattle.scheme.specs.Bits.{bytes_for, last_of}
-use Rattle.scheme.specs.Res.{Res, bad, ok, then, check, refusal}
+use Rattle.scheme.specs.Res.{Res, then, check, refusal}
 use Rattle.scheme.specs.Memory.{cell_at, cells_of, sound, held, lay_table, lay_bytes, capacity}
 use Rattle.laws.specs.Accept.{Small, then_use, check_inv, mem-take, mem-drop}
 use Rattle.laws.specs.Kept.{fit-with}
@@ -97,7 +97,7 @@ wf-load s S W i (b ∷ bs) L F =
 -- the memory of what was loaded into sound memory is sound, and holds it
 pub held-load : (n : ℕ) (t d : List ℕ) (bag : List Cell) → sound n t d ≡ true → Linked 0 bag → ((c : Cell) → Mem c bag → Fit c)
     → length (load (cells_of n t d) 0 bag).store ≤ capacity t → (s : List Cell) → s ≡ (load (cells_of n t d) 0 bag).store
-    → held (length s) (lay_table (capacity t) s) (lay_bytes (capacity t) s) ≡ ok s
+    → held (length s) (lay_table (capacity t) s) (lay_bytes (capacity t) s) ≡ Ok s
 unfolding held
 held-load n t d bag e L F h s q =
     let M = sound-is n t d e in
@@ -107,21 +107,21 @@ held-load n t d bag e L F h s q =
 -- an accepted call: its store was sound, and the read of the cells in it was accepted
 pub record Taken (whole : Bool) (n : ℕ) (t d scratch roots b : List ℕ) (c : Counts) (g : Got) : Type 0 where
   pub sound-store : sound n t d ≡ true
-  pub reads : read whole (length scratch) (length roots) (capacity t) (cells_of n t d) b ≡ ok g
+  pub reads : read whole (length scratch) (length roots) (capacity t) (cells_of n t d) b ≡ Ok g
   pub counts : g.counts ≡ c
-  pub out : reading whole n t d scratch roots b ≡ read_out n t d scratch roots (ok g)
+  pub out : reading whole n t d scratch roots b ≡ read_out n t d scratch roots (Ok g)
 
-pub call-taken : (whole : Bool) (n : ℕ) (t d scratch roots b : List ℕ) (c : Counts) → (reading whole n t d scratch roots b).answer ≡ ok c → (g : Got) × Taken whole n t d scratch roots b c g
+pub call-taken : (whole : Bool) (n : ℕ) (t d scratch roots b : List ℕ) (c : Counts) → (reading whole n t d scratch roots b).answer ≡ Ok c → (g : Got) × Taken whole n t d scratch roots b c g
 unfolding reading held
 call-taken whole n t d scratch roots b c e = go (then (held n t d) λ s. read whole (length scratch) (length roots) (capacity t) s b) refl e
   where
-    got : (g : Got) → then (held n t d) (λ s. read whole (length scratch) (length roots) (capacity t) s b) ≡ ok g → g.counts ≡ c → Taken whole n t d scratch roots b c g
+    got : (g : Got) → then (held n t d) (λ s. read whole (length scratch) (length roots) (capacity t) s b) ≡ Ok g → g.counts ≡ c → Taken whole n t d scratch roots b c g
     got g x q =
         then_use (held n t d) _ _ x λ s x₁ e₁.
         then_use (check (sound n t d) (refusal STORE 0)) _ _ x₁ λ u x₂ e₂.
         let r : cells_of n t d ≡ s = cc in
         record { sound-store = check_inv (sound n t d) (refusal STORE 0) u x₂; reads = rw r e₁; counts = q; out = rw x }
 
-    go : (r : Res Got) → then (held n t d) (λ s. read whole (length scratch) (length roots) (capacity t) s b) ≡ r → (read_out n t d scratch roots r).answer ≡ ok c → (g : Got) × Taken whole n t d scratch roots b c g
-    go (ok g) x e = (g, got g x (cc))
-    go (bad r) x e = let z : ◌≡◌ {A = ℕ} 0 1 = cc in absurd (omega arith)
+    go : (r : Res Got) → then (held n t d) (λ s. read whole (length scratch) (length roots) (capacity t) s b) ≡ r → (read_out n t d scratch roots r).answer ≡ Ok c → (g : Got) × Taken whole n t d scratch roots b c g
+    go (Ok g) x e = (g, got g x (cc))
+    go (Err r) x e = let z : ◌≡◌ {A = ℕ} 0 1 = cc in absurd (omega arith)

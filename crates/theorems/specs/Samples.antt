@@ -1,6 +1,5 @@
 -- Worked texts: what the grammar, the fields and the places of cut replies come to on worked bags of the rules.
-use Rattle.std.specs.Prelude.{◌≡◌, refl, ℕ, true, false, List, [], ◌∷◌, map, replicate}
-use Rattle.scheme.specs.Res.{ok}
+use Rattle.std.specs.Prelude.{◌≡◌, refl, ℕ, true, false, List, [], ◌∷◌, map, replicate, Ok}
 use Rattle.scheme.specs.Bytes.{chunk, field}
 use Rattle.scheme.specs.Crc.{crc_step, crc_steps, crc_byte, crc_run, crc_of}
 use Rattle.scheme.specs.Layout.{tag_ok, layout}
@@ -70,7 +69,7 @@ loose_head = record { size = 1; off = 0; has_idx = true; has_crc = true; has_cac
 abbrev loose_cells : List RawCell
 loose_cells = record { exotic = 1; level = 5; has-hashes = true; hashes = replicate 102 0x5a; completed = true; content = 0xb0 ∷ []; refs = [] } ∷ []
 
-loose_read : bag true 2 0 (serialized loose_head loose_cells) ≡ ok (bag_of loose_head loose_cells)
+loose_read : bag true 2 0 (serialized loose_head loose_cells) ≡ Ok (bag_of loose_head loose_cells)
 unfolding bag header field chunk tag_ok layout root_list index numbers raw_cell bits checksum crc_of crc_run crc_byte crc_steps crc_step bag_of serialized unsigned byte4 cell_text refs_descriptor bits_descriptor cell_of
 loose_read = refl
 

@@ -1,13 +1,13 @@
 -- Programs that the theorems shut out. Each theorem is put as something that a definition may meet or not: the one that the code is proved against meets it,
 -- and wrong ones, which answer every call as well, are proved not to, here or, where a theorem of proofs/ is cited, in proofs/ShutOut. Demands 2 and 3 are those of docs/DEMANDS.md.
 -- Assumes nothing.
-use Rattle.std.specs.Prelude.{◌≡◌, refl, ◌↔◌, ℕ, zero, suc, ◌≤◌, ◌<◌, Bool, true, false, ◌&&◌, List, [], ◌∷◌, ◌++◌, map, length, take, set, replicate, ltb}
+use Rattle.std.specs.Prelude.{◌≡◌, refl, ◌↔◌, ℕ, zero, suc, ◌≤◌, ◌<◌, Bool, true, false, ◌&&◌, List, [], ◌∷◌, ◌++◌, map, length, take, set, replicate, ltb, Ok, Err}
 use Rattle.std.proofs.Common.{not-suc-le-zero, arith, ltb-true}
 use mathlib.Core.List.Memᴰ.{head as here}
 use mathlib.Core.List.Memᴰ.{tail as there}
 use Rattle.scheme.specs.Refusals.{CUT}
 use Rattle.scheme.specs.Limits.{max_cells}
-use Rattle.scheme.specs.Res.{Res, bad, ok, then, refusal}
+use Rattle.scheme.specs.Res.{Res, then, refusal}
 use Rattle.scheme.specs.Bytes.{chunk, field}
 use Rattle.scheme.specs.Bits.{cropped}
 use Rattle.scheme.specs.Cells.{Cell, blank, with, at, tree}
@@ -41,12 +41,12 @@ BagReader = Bool → ℕ → ℕ → List ℕ → Res Bag
 -- cut replies: what the whole reading accepts is refused CUT in every shorter front
 abbrev pub RefusesCut : BagReader → Type 0
 RefusesCut reads =
-    (scratch room : ℕ) (b : List ℕ) (g : Bag) → reads true scratch room b ≡ ok g
-    → (k : ℕ) → k < length b → (whole : Bool) → reads whole scratch room (take k b) ≡ bad (refusal CUT (cut_place 0 k (bag_fields b)))
+    (scratch room : ℕ) (b : List ℕ) (g : Bag) → reads true scratch room b ≡ Ok g
+    → (k : ℕ) → k < length b → (whole : Bool) → reads whole scratch room (take k b) ≡ Err (refusal CUT (cut_place 0 k (bag_fields b)))
 
 -- demand 2: exactly the texts of the grammar are accepted, as the bags that they say
 abbrev pub ReadsGrammar : BagReader → Type 0
-ReadsGrammar reads = (whole : Bool) (scratch room : ℕ) (b : List ℕ) (g : Bag) → Small b → (reads whole scratch room b ≡ ok g) ↔ Says whole scratch room b g
+ReadsGrammar reads = (whole : Bool) (scratch room : ℕ) (b : List ℕ) (g : Bag) → Small b → (reads whole scratch room b ≡ Ok g) ↔ Says whole scratch room b g
 
 -- wrong: a byte past the end is taken for 0
 abbrev pub zero_past : BagReader
@@ -83,7 +83,7 @@ pub zero-past_shut_out : ¬ RefusesCut zero_past
 unfolding bag header field chunk tag_ok layout root_list index numbers raw_cell bits checksum
 zero-past_shut_out H =
     let b = empty_bag 0x01 [] in
-    let e : zero_past true 2 1 (take 12 b) ≡ ok empty_read = refl in
+    let e : zero_past true 2 1 (take 12 b) ≡ Ok empty_read = refl in
     let h = H 2 1 b empty_read refl 12 (omega arith) true in
     no cc
 
@@ -95,22 +95,22 @@ Reader = Bool → ℕ → ℕ → ℕ → List Cell → List ℕ → Res Got
 -- demand 2: an accepted read means what the bag says
 abbrev pub ReadMeans : Reader → Type 0
 ReadMeans reads =
-    (whole : Bool) (scratch room cap : ℕ) (s : List Cell) (b : List ℕ) (g : Got) → Low s → Small b → reads whole scratch room cap s b ≡ ok g
-    → (a : Bag) × (bag whole scratch room b ≡ ok a) × Means s b a g
+    (whole : Bool) (scratch room cap : ℕ) (s : List Cell) (b : List ℕ) (g : Got) → Low s → Small b → reads whole scratch room cap s b ≡ Ok g
+    → (a : Bag) × (bag whole scratch room b ≡ Ok a) × Means s b a g
 
 -- demand 2: exactly the texts of the grammar whose new cells have room are accepted
 abbrev pub AcceptsTexts : Reader → Type 0
 AcceptsTexts reads =
     (whole : Bool) (scratch room cap : ℕ) (s : List Cell) (b : List ℕ) → Small b
-    → ((g : Got) × (reads whole scratch room cap s b ≡ ok g)) ↔ Fits whole scratch room cap s b
+    → ((g : Got) × (reads whole scratch room cap s b ≡ Ok g)) ↔ Fits whole scratch room cap s b
 
 -- wrong: every bag is refused
 abbrev pub refuses_every : Reader
-refuses_every whole scratch room cap s b = bad (refusal CUT 0)
+refuses_every whole scratch room cap s b = Err (refusal CUT 0)
 
 -- the answer of the definition, altered
 abbrev altered : (List Cell → Got → Got) → Reader
-altered f whole scratch room cap s b = then (read whole scratch room cap s b) λ g. ok (f s g)
+altered f whole scratch room cap s b = then (read whole scratch room cap s b) λ g. Ok (f s g)
 
 -- wrong: number 0 always
 abbrev pub zero_always : Reader
@@ -177,18 +177,18 @@ sample_got = record {
   store = byte_cell 0xbb [] ∷ byte_cell 0xaa (0 ∷ []) ∷ [];
 }
 
-sample-bag : bag true 6 1 sample ≡ ok sample_read
+sample-bag : bag true 6 1 sample ≡ Ok sample_read
 unfolding bag header field chunk tag_ok layout root_list index numbers raw_cell bits checksum
 sample-bag = refl
 
-pub sample-read : read true 6 1 2 [] sample ≡ ok sample_got
+pub sample-read : read true 6 1 2 [] sample ≡ Ok sample_got
 unfolding read
 sample-read = rw sample-bag
 
 -- what a reader that alters the answer has to mean on the sample
 pub sample-means : (f : List Cell → Got → Got) → ReadMeans (altered f) → Means [] sample sample_read (f [] sample_got)
 sample-means f H =
-    let e : altered f true 6 1 2 [] sample ≡ ok (f [] sample_got) = rw sample-read in
+    let e : altered f true 6 1 2 [] sample ≡ Ok (f [] sample_got) = rw sample-read in
     let r = H true 6 1 2 [] sample (f [] sample_got) (λ i h. absurd (not-suc-le-zero h)) (are-small sample refl) e in
     let q : r.0 ≡ sample_read = let x = r.1 in let y = sample-bag in cc in
     rw q at r.2
@@ -216,7 +216,7 @@ Demands3 leaves = (m : Memory) → Reached leaves m → Demand3 m
 -- wrong: an add never finds, and appends every cell
 abbrev pub never_finds : Memory → Call → Memory
 never_finds m clear = after m clear
-never_finds m (add-cell b) = left (laid {A = ℕ} m.table (cells m ++ cell_in b ∷ []) (ok m.count))
+never_finds m (add-cell b) = left (laid {A = ℕ} m.table (cells m ++ cell_in b ∷ []) (Ok m.count))
 never_finds m (read-bag whole scratch roots reply) = after m (read-bag whole scratch roots reply)
 
 -- the definition
@@ -296,7 +296,7 @@ shared_once s i = length (order_of s i)
 
 -- wrong: the number of the cell is its depth
 abbrev pub number_for_depth : List Cell → ℕ → Res ℕ
-number_for_depth s i = ok i
+number_for_depth s i = Ok i
 
 -- the definitions
 abbrev pub printed_cells : List Cell → ℕ → ℕ

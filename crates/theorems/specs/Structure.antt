@@ -1,12 +1,12 @@
 -- Text and depth depend on the unfolded structure alone: they are folds over it.
 -- Assumes nothing.
-use Rattle.std.specs.Prelude.{◌≡◌, refl, ℕ, zero, suc, ◌+◌, ◌*◌, ◌<◌, length, leb, ltb}
+use Rattle.std.specs.Prelude.{◌≡◌, refl, ℕ, zero, suc, ◌+◌, ◌*◌, ◌<◌, length, leb, ltb, Ok}
 use Rattle.std.proofs.Common.{sym, ap, ◌∙◌, not-suc-le-zero, arith, ltb-true}
 use mathlib.Core.List.Memᴰ.{head as here}
 use mathlib.Core.List.Memᴰ.{tail as there}
 use mathlib.Core.List.{List, [], ◌∷◌, map, Memᴰ as Mem}
 use Rattle.scheme.specs.Refusals.{STORE, SCRATCH, NOCELL}
-use Rattle.scheme.specs.Res.{Res, ok, check, refusal}
+use Rattle.scheme.specs.Res.{Res, check, refusal}
 use Rattle.scheme.specs.Cells.{Cell, Tree, Forest, node, none, more, at, with, forest, unfolded, tree}
 use Rattle.scheme.specs.Fold.{value}
 use Rattle.scheme.specs.Depth.{is_pruned, pruned_depth, depth_step, depth}
@@ -103,7 +103,7 @@ pub record Lent (n : ℕ) (t d : List ℕ) (i : ℕ) (s : List Cell) : Type 0 wh
   pub low : Low s
   pub holds : i < length s
 
-pub lent_is : (k n : ℕ) (t d : List ℕ) (i scratch : ℕ) (s : List Cell) → lent k n t d i scratch ≡ ok s → Lent n t d i s
+pub lent_is : (k n : ℕ) (t d : List ℕ) (i scratch : ℕ) (s : List Cell) → lent k n t d i scratch ≡ Ok s → Lent n t d i s
 unfolding lent held
 lent_is k n t d i scratch s e =
     then_use (held n t d) _ _ e λ s₁ x₁ e₁.
@@ -116,7 +116,7 @@ lent_is k n t d i scratch s e =
     record { is = sym q; low = rw (← q) (memory-low n t d (check_inv (sound n t d) (refusal STORE 0) u₂ x₂)); holds = rw r at h }
 
 module _ (n m : ℕ) (t d t' d' : List ℕ) (i j : ℕ) (scratch scratch' : List ℕ) (s u : List Cell)
-    (x : lent 1 n t d i (length scratch) ≡ ok s) (y : lent 1 m t' d' j (length scratch') ≡ ok u) (e : tree s i ≡ tree u j) where
+    (x : lent 1 n t d i (length scratch) ≡ Ok s) (y : lent 1 m t' d' j (length scratch') ≡ Ok u) (e : tree s i ≡ tree u j) where
   abbrev L : Lent n t d i s
   L = lent_is 1 n t d i (length scratch) s x
 

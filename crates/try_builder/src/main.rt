@@ -2,38 +2,29 @@
 // the bits, the references in use, all four of them, and all data bytes.
 #![tactic(auto)]
 
-use builder::{Built, CellBuilder, Verdict};
-use scheme::DATA_LEN;
+use builder::{Built, CellBuilder};
+use scheme::{DATA_LEN, Refusal};
 use std::io;
 use std::io::Write;
 
-const MAX: usize = 18446744073709551615;
-
-fn show_verdict<W: Write>(to: &mut W, verdict: Verdict) -> io::Result<()> {
+fn show_verdict<W: Write>(to: &mut W, verdict: Result<(), Refusal>) -> io::Result<()> {
     match verdict {
-        Verdict::Done => show::text(to, b"done")?,
-        Verdict::Refused(r) => show::refused(to, r)?,
+        Ok(()) => write!(to, "done"),
+        Err(r) => write!(to, "{r}"),
     }
-    Ok(())
 }
 
 // Writes what a step hands back, and takes the builder out for the next one.
 fn show_step<W: Write>(to: &mut W, built: Built) -> io::Result<CellBuilder> {
-    let verdict = built.verdict;
-    show_verdict(to, verdict)?;
+    show_verdict(to, built.verdict)?;
     let builder = built.builder;
-    if builder.exotic {
-        show::text(to, b": exotic")?;
-    } else {
-        show::text(to, b": plain")?;
-    }
-    show::spaced(to, builder.len)?;
-    show::spaced(to, builder.count)?;
-    let refs = builder.refs;
-    show::numbers(to, &refs)?;
-    show::text(to, b" ")?;
-    let bytes = builder.bytes;
-    show::bytes(to, &bytes)?;
+    let kind = if builder.exotic { "exotic" } else { "plain" };
+    let len = builder.len;
+    let count = builder.count;
+    write!(to, ": {kind} {len} {count}")?;
+    show::numbers(to, &builder.refs)?;
+    write!(to, " ")?;
+    show::bytes(to, &builder.bytes)?;
     show::end(to)?;
     Ok(builder)
 }
@@ -55,10 +46,10 @@ fn try_limits<W: Write>(to: &mut W, b: CellBuilder) -> io::Result<CellBuilder> {
     let few = [0xb7u8, 0x0f];
     let many = [0x5au8; 129];
     let b = show_step(to, b.write_bits(17, &few))?;
-    let b = show_step(to, b.write_bits(MAX, &few))?;
+    let b = show_step(to, b.write_bits(usize::MAX, &few))?;
     let b = show_step(to, b.write_bits(1032, &many))?;
     let b = show_step(to, b.write_bits(1033, &many))?;
-    let b = show_step(to, b.repeat_bit(MAX, true))?;
+    let b = show_step(to, b.repeat_bit(usize::MAX, true))?;
     let b = show_step(to, b.repeat_bit(980, true))?;
     show_step(to, b.write_bits(979, &many))
 }
@@ -78,7 +69,7 @@ fn try_full<W: Write>(to: &mut W, b: CellBuilder) -> io::Result<CellBuilder> {
 fn try_references<W: Write>(to: &mut W, b: CellBuilder) -> io::Result<CellBuilder> {
     let b = show_step(to, b.store_reference(7))?;
     let b = show_step(to, b.store_reference(0))?;
-    let b = show_step(to, b.store_reference(4294967295))?;
+    let b = show_step(to, b.store_reference(u32::MAX))?;
     let b = show_step(to, b.store_reference(9))?;
     show_step(to, b.store_reference(10))
 }
@@ -114,14 +105,14 @@ fn try_odd<W: Write>(to: &mut W) -> io::Result<CellBuilder> {
     let none = [0u8; 0];
     let odd = CellBuilder {
         exotic: false,
-        len: MAX,
+        len: usize::MAX,
         bytes: [0; DATA_LEN],
-        count: MAX,
+        count: usize::MAX,
         refs: [0; 4],
     };
     let b = show_step(to, odd.write_bits(0, &none))?;
     let b = show_step(to, b.write_bits(1, &none))?;
-    let b = show_step(to, b.repeat_bit(MAX, false))?;
+    let b = show_step(to, b.repeat_bit(usize::MAX, false))?;
     show_step(to, b.store_reference(5))
 }
 

@@ -1,16 +1,16 @@
 // Runs the record form on real memory: a store's flat table copied to records, each record read, one appended, and the records copied back.
 #![tactic(auto)]
 
-ghost use Rattle.std.specs.Prelude.{◌≡◌, true, ltb, ◌++◌, ◌*◌, ◌≤◌, length, get_or, set, take, drop};
-ghost use Rattle.records.specs.Answers.{read_of, added_of, read_paper, added_paper};
-ghost use Rattle.records.specs.Record.{blank, lesser_of, room_for, export_recs, import_recs};
+ghost use Rattle.std.specs.Prelude.{◌≡◌, ltb, min, ◌++◌, ◌*◌, ◌≤◌, length, get_or, set, take, drop};
+ghost use Rattle.records.specs.Answers.{read_of, added_of};
+ghost use Rattle.records.specs.Record.{blank, room_for, export_recs, import_recs};
 
 use builder::CellBuilder;
-use records::{CellRecord, RecordAdded, RecordRead};
+use records::CellRecord;
 use scheme::{DATA_LEN, RECORD_LEN, Refusal};
 use std::io;
 use std::io::Write;
-use store::{Added, Asked, Cleared};
+use store::Cells;
 
 // The records of the store, and of the array that is lent.
 const PLACES: usize = 4;
@@ -35,7 +35,7 @@ struct Exported {
 // What an array of records holds after an append, and the answer.
 #[derive(Drop)]
 struct Appended {
-    answer: RecordAdded,
+    answer: Result<usize, Refusal>,
     table: [CellRecord; PLACES],
 }
 
@@ -46,8 +46,8 @@ fn places(table: [CellRecord; PLACES]) -> usize
     records::record_count(&table)
 }
 
-fn read(table: [CellRecord; PLACES], n: usize, count: usize) -> RecordRead
-    ensures { read_paper result ≡ read_of n (lesser_of count (length table)) (get_or table n blank) }
+fn read(table: [CellRecord; PLACES], n: usize, count: usize) -> Result<CellRecord, Refusal>
+    ensures { result ≡ read_of n (min count (length table)) (get_or table n blank) }
 {
     records::read_record(&table, n, count)
 }
@@ -68,36 +68,15 @@ fn export(flat: &[u32], n: usize, mut table: [CellRecord; PLACES]) -> Exported
 }
 
 fn append(mut table: [CellRecord; PLACES], count: usize, r: CellRecord) -> Appended
-    ensures { (added_paper result.answer ≡ added_of (ltb count (length table)) count) × (result.table ≡ set table count r) }
+    ensures { (result.answer ≡ added_of (ltb count (length table)) count) × (result.table ≡ set table count r) }
 {
     let answer = records::append_record(&mut table, count, r);
     Appended { answer, table }
 }
 
-fn show_refused<W: Write>(to: &mut W, r: Refusal) -> io::Result<()> {
-    show::refused(to, r)?;
-    show::end(to)
-}
-
 fn show_line<W: Write>(to: &mut W, xs: &[u32]) -> io::Result<()> {
     show::numbers(to, xs)?;
     show::end(to)
-}
-
-fn same(a: &[u32], b: &[u32]) -> bool
-    ensures { result ≡ true → a.now ≡ b.now }
-{
-    if a.len() != b.len() {
-        return false;
-    }
-    let mut k = 0;
-    while k < a.len() {
-        if a[k] != b[k] {
-            return false;
-        }
-        k += 1;
-    }
-    true
 }
 
 fn try_clear<W: Write>(
@@ -106,10 +85,9 @@ fn try_clear<W: Write>(
     table: &mut [u32],
     bytes: &mut [u8],
 ) -> io::Result<()> {
-    show::text(to, b"clear: ")?;
     match store::clear(count, table, bytes) {
-        Cleared::Done => show::text(to, b"done\n"),
-        Cleared::Refused(r) => show_refused(to, r),
+        Ok(()) => writeln!(to, "clear: done"),
+        Err(r) => writeln!(to, "clear: {r}"),
     }
 }
 
@@ -120,13 +98,9 @@ fn try_add<W: Write>(
     bytes: &mut [u8],
     cell: CellBuilder,
 ) -> io::Result<()> {
-    show::text(to, b"add: ")?;
     match store::add(count, table, bytes, cell) {
-        Added::Number(n) => {
-            show::number(to, n)?;
-            show::end(to)
-        }
-        Added::Refused(r) => show_refused(to, r),
+        Ok(n) => writeln!(to, "add: {n}"),
+        Err(r) => writeln!(to, "add: {r}"),
     }
 }
 
@@ -173,7 +147,8 @@ fn adds<W: Write>(
 }
 
 fn show_record<W: Write>(to: &mut W, r: CellRecord) -> io::Result<()> {
-    show_line(to, &[r.exotic, r.len, r.refs, r.r0, r.r1, r.r2, r.r3])
+    show::numbers(to, &[r.exotic, r.len, r.count])?;
+    show_line(to, &r.refs)
 }
 
 fn try_read<W: Write>(
@@ -182,17 +157,10 @@ fn try_read<W: Write>(
     n: usize,
     count: usize,
 ) -> io::Result<()> {
-    show::text(to, b"record ")?;
-    show::number(to, n)?;
-    show::text(to, b" of ")?;
-    show::number(to, count)?;
-    show::text(to, b":")?;
+    write!(to, "record {n} of {count}:")?;
     match read(table, n, count) {
-        RecordRead::Record(r) => show_record(to, r),
-        RecordRead::Refused(r) => {
-            show::text(to, b" ")?;
-            show_refused(to, r)
-        }
+        Ok(r) => show_record(to, r),
+        Err(r) => writeln!(to, " {r}"),
     }
 }
 
@@ -203,11 +171,8 @@ fn try_export<W: Write>(
     table: [CellRecord; PLACES],
 ) -> io::Result<[CellRecord; PLACES]> {
     let exported = export(flat, n, table);
-    show::text(to, b"export ")?;
-    show::number(to, n)?;
-    show::text(to, b": ")?;
-    show::number(to, exported.count)?;
-    show::end(to)?;
+    let count = exported.count;
+    writeln!(to, "export {n}: {count}")?;
     Ok(exported.table)
 }
 
@@ -218,14 +183,9 @@ fn try_append<W: Write>(
     r: CellRecord,
 ) -> io::Result<[CellRecord; PLACES]> {
     let appended = append(table, count, r);
-    let answer = appended.answer;
-    show::text(to, b"append: ")?;
-    match answer {
-        RecordAdded::Number(n) => {
-            show::number(to, n)?;
-            show::end(to)?;
-        }
-        RecordAdded::Refused(refusal) => show_refused(to, refusal)?,
+    match appended.answer {
+        Ok(n) => writeln!(to, "append: {n}")?,
+        Err(r) => writeln!(to, "append: {r}")?,
     }
     Ok(appended.table)
 }
@@ -236,32 +196,26 @@ fn try_import<W: Write>(
     n: usize,
     flat: &mut [u32],
 ) -> io::Result<()> {
-    show::text(to, b"import ")?;
-    show::number(to, n)?;
-    show::text(to, b": ")?;
-    show::number(to, import(table, n, flat))?;
-    show::end(to)?;
-    show::text(to, b"flat:")?;
+    let count = import(table, n, flat);
+    writeln!(to, "import {n}: {count}")?;
+    write!(to, "flat:")?;
     show_line(to, flat)
 }
 
 fn compare<W: Write>(to: &mut W, a: &[u32], b: &[u32]) -> io::Result<()> {
-    if same(a, b) {
-        show::text(to, b"the same\n")
+    if a == b {
+        writeln!(to, "the same")
     } else {
-        show::text(to, b"not the same\n")
+        writeln!(to, "not the same")
     }
 }
 
-fn record_of(len: u32, refs: u32, r0: u32, r1: u32) -> CellRecord {
+fn record_of(len: u32, count: u32, r0: u32, r1: u32) -> CellRecord {
     CellRecord {
         exotic: 0,
         len,
-        refs,
-        r0,
-        r1,
-        r2: 0,
-        r3: 0,
+        count,
+        refs: [r0, r1, 0, 0],
     }
 }
 
@@ -269,23 +223,14 @@ fn blanks() -> [CellRecord; PLACES] {
     [record_of(0, 0, 0, 0); PLACES]
 }
 
-fn try_cell<W: Write>(
-    to: &mut W,
-    count: usize,
-    table: &[u32],
-    bytes: &[u8],
-    n: usize,
-) -> io::Result<()> {
-    show::text(to, b"cell ")?;
-    show::number(to, n)?;
-    show::text(to, b": ")?;
-    match store::cell(count, table, bytes, n) {
-        Asked::Cell(head) => {
-            show::number(to, head.len)?;
-            show::text(to, b" bits,")?;
-            show_line(to, &[head.r0, head.r1, head.r2, head.r3])
+fn try_cell<W: Write>(to: &mut W, store: Cells, n: usize) -> io::Result<()> {
+    match store::cell(store, n) {
+        Ok(head) => {
+            let len = head.len;
+            write!(to, "cell {n}: {len} bits,")?;
+            show_line(to, &head.refs)
         }
-        Asked::Refused(r) => show_refused(to, r),
+        Err(r) => writeln!(to, "cell {n}: {r}"),
     }
 }
 
@@ -311,12 +256,9 @@ fn round_trip<W: Write>(
     try_read(to, table, 2, count)?;
     try_read(to, table, count, count)?;
     let mut again = [0u32; NUMBERS];
-    show::text(to, b"there and back ")?;
-    show::number(to, count)?;
-    show::text(to, b": ")?;
-    show::number(to, there_and_back(flat, count, &mut again))?;
-    show::end(to)?;
-    show::text(to, b"flat:")?;
+    let copied = there_and_back(flat, count, &mut again);
+    writeln!(to, "there and back {count}: {copied}")?;
+    write!(to, "flat:")?;
     show_line(to, &again)?;
     compare(to, flat, &again)?;
     Ok(table)
@@ -337,7 +279,12 @@ fn grow<W: Write>(
     let mut again = [0u32; NUMBERS];
     try_import(to, full, PLACES, &mut again)?;
     compare(to, flat, &again)?;
-    try_cell(to, PLACES, &again, bytes, count)
+    let store = Cells {
+        count: PLACES,
+        table: &again,
+        bytes,
+    };
+    try_cell(to, store, count)
 }
 
 // Copies of as many records as fit.
@@ -357,11 +304,10 @@ fn main(rt: HostRuntime) -> io::Result<()> {
     let mut bytes = [3u8; BYTES];
     try_clear(&mut to, &mut count, &mut flat, &mut bytes)?;
     adds(&mut to, &mut count, &mut flat, &mut bytes)?;
-    show::text(&mut to, b"flat:")?;
+    write!(to, "flat:")?;
     show_line(&mut to, &flat)?;
-    show::text(&mut to, b"places: ")?;
-    show::number(&mut to, places(blanks()))?;
-    show::end(&mut to)?;
+    let places = places(blanks());
+    writeln!(to, "places: {places}")?;
     let table = round_trip(&mut to, count, &flat)?;
     grow(&mut to, count, &flat, &bytes, table)?;
     short(&mut to, &flat)

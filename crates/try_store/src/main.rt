@@ -1,17 +1,14 @@
 // Runs the store on real memory: clear, add (a new cell, a held one, each refusal), cell and its data; a batch.
 #![tactic(auto)]
 
-use add_many::AddedMany;
 use builder::CellBuilder;
 use scheme::DATA_LEN;
 use std::io;
 use std::io::Write;
-use store::{Added, Asked, Cleared};
+use store::Cells;
 
 fn after<W: Write>(to: &mut W, count: usize) -> io::Result<()> {
-    show::text(to, b", count ")?;
-    show::number(to, count)?;
-    show::end(to)
+    writeln!(to, ", count {count}")
 }
 
 fn try_clear<W: Write>(
@@ -20,10 +17,9 @@ fn try_clear<W: Write>(
     table: &mut [u32],
     bytes: &mut [u8],
 ) -> io::Result<()> {
-    show::text(to, b"clear: ")?;
     match store::clear(count, table, bytes) {
-        Cleared::Done => show::text(to, b"done")?,
-        Cleared::Refused(r) => show::refused(to, r)?,
+        Ok(()) => write!(to, "clear: done")?,
+        Err(r) => write!(to, "clear: {r}")?,
     }
     after(to, *count)
 }
@@ -35,42 +31,32 @@ fn try_add<W: Write>(
     bytes: &mut [u8],
     cell: CellBuilder,
 ) -> io::Result<()> {
-    show::text(to, b"add: ")?;
     match store::add(count, table, bytes, cell) {
-        Added::Number(n) => {
-            show::text(to, b"number ")?;
-            show::number(to, n)?;
-        }
-        Added::Refused(r) => show::refused(to, r)?,
+        Ok(n) => write!(to, "add: number {n}")?,
+        Err(r) => write!(to, "add: {r}")?,
     }
     after(to, *count)
 }
 
-fn try_cell<W: Write>(
-    to: &mut W,
-    count: usize,
-    table: &[u32],
-    bytes: &[u8],
-    n: usize,
-) -> io::Result<()> {
-    show::text(to, b"cell ")?;
-    show::number(to, n)?;
-    show::text(to, b": ")?;
-    match store::cell(count, table, bytes, n) {
-        Asked::Cell(head) => {
+fn try_cell<W: Write>(to: &mut W, store: Cells, n: usize) -> io::Result<()> {
+    write!(to, "cell {n}: ")?;
+    match store::cell(store, n) {
+        Ok(head) => {
             if head.exotic {
-                show::text(to, b"exotic ")?;
+                write!(to, "exotic ")?;
             }
-            show::number(to, head.len)?;
-            show::text(to, b" bits, ")?;
-            show::number(to, head.count)?;
-            show::text(to, b" references")?;
-            show::numbers(to, &[head.r0, head.r1, head.r2, head.r3])?;
+            let len = head.len;
+            let references = head.count;
+            write!(to, "{len} bits, {references} references")?;
+            show::numbers(to, &head.refs)?;
         }
-        Asked::Refused(r) => show::refused(to, r)?,
+        Err(r) => write!(to, "{r}")?,
     }
-    show::text(to, b", data ")?;
-    show::bytes(to, store::cell_data(count, table, bytes, n))?;
+    write!(to, ", data ")?;
+    show::bytes(
+        to,
+        store::cell_data(store.count, store.table, store.bytes, n),
+    )?;
     show::end(to)
 }
 
@@ -202,11 +188,19 @@ fn adds<W: Write>(
     full(to, count, table, bytes)
 }
 
-fn asks<W: Write>(to: &mut W, count: usize, table: &[u32], bytes: &[u8]) -> io::Result<()> {
-    try_cell(to, count, table, bytes, 0)?;
-    try_cell(to, count, table, bytes, 1)?;
-    try_cell(to, count, table, bytes, 2)?;
-    try_cell(to, count, table, bytes, 3)
+fn store_of<'a>(count: usize, table: &'a [u32], bytes: &'a [u8]) -> Cells<'a> {
+    Cells {
+        count,
+        table,
+        bytes,
+    }
+}
+
+fn asks<W: Write>(to: &mut W, store: Cells) -> io::Result<()> {
+    try_cell(to, store, 0)?;
+    try_cell(to, store, 1)?;
+    try_cell(to, store, 2)?;
+    try_cell(to, store, 3)
 }
 
 fn try_many<W: Write>(
@@ -220,17 +214,15 @@ fn try_many<W: Write>(
     blocks[0] = 171;
     blocks[128] = 207;
     let mut numbers = [99u32; 4];
-    show::text(to, b"many: ")?;
     match add_many::add_many(count, table, bytes, heads, &blocks, &mut numbers) {
-        AddedMany::All => show::text(to, b"all")?,
-        AddedMany::Stopped(stop) => {
-            show::text(to, b"cell ")?;
-            show::number(to, stop.cell)?;
-            show::text(to, b" ")?;
-            show::refused(to, stop.refusal)?;
+        Ok(()) => write!(to, "many: all")?,
+        Err(stop) => {
+            let cell = stop.cell;
+            let r = stop.refusal;
+            write!(to, "many: cell {cell} {r}")?;
         }
     }
-    show::text(to, b", numbers")?;
+    write!(to, ", numbers")?;
     show::numbers(to, &numbers)?;
     after(to, *count)
 }
@@ -251,7 +243,7 @@ fn main(rt: HostRuntime) -> io::Result<()> {
     try_clear(&mut to, &mut count, &mut table, &mut short)?;
     try_clear(&mut to, &mut count, &mut table, &mut bytes)?;
     adds(&mut to, &mut count, &mut table, &mut bytes)?;
-    asks(&mut to, count, &table, &bytes)?;
+    asks(&mut to, store_of(count, &table, &bytes))?;
     // The last record is no longer in use and not 0: the store is not sound.
     count = 2;
     try_add(
@@ -261,9 +253,9 @@ fn main(rt: HostRuntime) -> io::Result<()> {
         &mut bytes,
         cell_of(false, 0, 0, 0, 0, [0, 0, 0, 0]),
     )?;
-    try_cell(&mut to, count, &table, &bytes, 0)?;
+    try_cell(&mut to, store_of(count, &table, &bytes), 0)?;
     try_clear(&mut to, &mut count, &mut table, &mut bytes)?;
-    try_cell(&mut to, count, &table, &bytes, 0)?;
+    try_cell(&mut to, store_of(count, &table, &bytes), 0)?;
     try_many(
         &mut to,
         &mut count,

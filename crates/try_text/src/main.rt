@@ -2,12 +2,10 @@
 #![tactic(auto)]
 
 use builder::CellBuilder;
-use depth::Depth;
 use scheme::{DATA_LEN, MAX_CELLS, RECORD_LEN};
 use std::io;
 use std::io::Write;
-use store::Added;
-use text::Text;
+use store::Cells;
 
 // The records of the store.
 const CELLS: usize = 300;
@@ -48,14 +46,10 @@ fn add<W: Write>(
     cell: CellBuilder,
 ) -> io::Result<u32> {
     match store::add(count, table, bytes, cell) {
-        Added::Number(n) => {
-            if n < MAX_CELLS {
-                return Ok(n as u32);
-            }
-            Ok(0)
-        }
-        Added::Refused(r) => {
-            show::refused(to, r)?;
+        Ok(n) if n < MAX_CELLS => Ok(n as u32),
+        Ok(_) => Ok(0),
+        Err(r) => {
+            write!(to, "{r}")?;
             Ok(0)
         }
     }
@@ -69,8 +63,7 @@ fn add_path<W: Write>(
     bytes: &mut [u8],
 ) -> io::Result<u32> {
     let mut last = add(to, count, table, bytes, CellBuilder::new(false))?;
-    let mut k = 0;
-    while k < PATH {
+    for _ in 0..PATH {
         last = add(
             to,
             count,
@@ -78,7 +71,6 @@ fn add_path<W: Write>(
             bytes,
             CellBuilder::new(false).store_reference(last).builder,
         )?;
-        k += 1;
     }
     Ok(last)
 }
@@ -91,20 +83,24 @@ fn add_twice<W: Write>(
     bytes: &mut [u8],
 ) -> io::Result<u32> {
     let mut last = 0;
-    let mut k = 0;
-    while k < TWICE {
+    for _ in 0..TWICE {
         let half = CellBuilder::new(false).store_reference(last).builder;
         last = add(to, count, table, bytes, half.store_reference(last).builder)?;
-        k += 1;
     }
     Ok(last)
 }
 
+fn store_of<'a>(count: usize, table: &'a [u32], bytes: &'a [u8]) -> Cells<'a> {
+    Cells {
+        count,
+        table,
+        bytes,
+    }
+}
+
 fn try_text<W: Write>(
     to: &mut W,
-    count: usize,
-    table: &[u32],
-    bytes: &[u8],
+    store: Cells,
     n: usize,
     budget: usize,
     entries: usize,
@@ -118,45 +114,25 @@ fn try_text<W: Write>(
     }
     let mut scratch = [0u32; ENTRIES];
     let mut out = out_room();
-    show::text(to, b"text: ")?;
-    match text::debug_text(
-        count,
-        table,
-        bytes,
-        n,
-        budget,
-        &mut scratch[..entries],
-        &mut out[..room],
-    ) {
-        Text::Printed(p) => {
-            show::text(to, b"bytes ")?;
-            show::number(to, p.written)?;
-            show::text(to, b", cells ")?;
-            show::number(to, p.cells)?;
+    match text::debug_text(store, n, budget, &mut scratch[..entries], &mut out[..room]) {
+        Ok(p) => {
+            let written = p.written;
+            let cells = p.cells;
+            writeln!(to, "text: bytes {written}, cells {cells}")
         }
-        Text::Refused(r) => show::refused(to, r)?,
+        Err(r) => writeln!(to, "text: {r}"),
     }
-    show::end(to)
 }
 
-fn try_depth<W: Write>(
-    to: &mut W,
-    count: usize,
-    table: &[u32],
-    bytes: &[u8],
-    n: usize,
-    entries: usize,
-) -> io::Result<()> {
+fn try_depth<W: Write>(to: &mut W, store: Cells, n: usize, entries: usize) -> io::Result<()> {
     if entries > ENTRIES {
         return Ok(());
     }
     let mut scratch = [0u32; ENTRIES];
-    show::text(to, b"depth: ")?;
-    match depth::max_depth(count, table, bytes, n, &mut scratch[..entries]) {
-        Depth::Levels(d) => show::number(to, d)?,
-        Depth::Refused(r) => show::refused(to, r)?,
+    match depth::max_depth(store, n, &mut scratch[..entries]) {
+        Ok(d) => writeln!(to, "depth: {d}"),
+        Err(r) => writeln!(to, "depth: {r}"),
     }
-    show::end(to)
 }
 
 // A pruned branch of one level that names the greatest depth.
@@ -172,36 +148,34 @@ fn pruned() -> CellBuilder {
 // Each case. `path`, `twice`, `branch` and `above` are the numbers of the last cell of each chain, of the pruned branch and of the cell over it.
 fn run<W: Write>(
     to: &mut W,
-    count: usize,
-    table: &[u32],
-    bytes: &[u8],
+    store: Cells,
     path: usize,
     twice: usize,
     branch: usize,
     above: usize,
 ) -> io::Result<()> {
-    show::number(to, count)?;
-    show::text(to, b" cells\n")?;
-    try_text(to, count, table, bytes, 256, 1000, ENTRIES, ROOM)?;
-    try_text(to, count, table, bytes, path, 1000, ENTRIES, ROOM)?;
-    try_text(to, count, table, bytes, 256, 257, ENTRIES, ROOM)?;
-    try_text(to, count, table, bytes, 256, 256, ENTRIES, ROOM)?;
-    try_text(to, count, table, bytes, 256, 257, ENTRIES, ROOM - 1)?;
-    try_text(to, count, table, bytes, 0, 0, ENTRIES, ROOM)?;
-    try_text(to, count, table, bytes, twice, usize::MAX, ENTRIES, ROOM)?;
-    try_text(to, count, table, bytes, count, 1, ENTRIES, ROOM)?;
-    try_text(to, count, table, bytes, 0, 1, 200, ROOM)?;
-    try_depth(to, count, table, bytes, path, ENTRIES)?;
-    try_depth(to, count, table, bytes, twice, ENTRIES)?;
-    try_depth(to, count, table, bytes, branch, ENTRIES)?;
-    try_depth(to, count, table, bytes, above, ENTRIES)?;
-    try_depth(to, count, table, bytes, count, ENTRIES)?;
-    try_depth(to, count, table, bytes, 0, 200)?;
-    try_depth(to, usize::MAX, table, bytes, 0, ENTRIES)
-}
-
-fn wide(x: u32) -> usize {
-    x as usize
+    let count = store.count;
+    writeln!(to, "{count} cells")?;
+    try_text(to, store, 256, 1000, ENTRIES, ROOM)?;
+    try_text(to, store, path, 1000, ENTRIES, ROOM)?;
+    try_text(to, store, 256, 257, ENTRIES, ROOM)?;
+    try_text(to, store, 256, 256, ENTRIES, ROOM)?;
+    try_text(to, store, 256, 257, ENTRIES, ROOM - 1)?;
+    try_text(to, store, 0, 0, ENTRIES, ROOM)?;
+    try_text(to, store, twice, usize::MAX, ENTRIES, ROOM)?;
+    try_text(to, store, count, 1, ENTRIES, ROOM)?;
+    try_text(to, store, 0, 1, 200, ROOM)?;
+    try_depth(to, store, path, ENTRIES)?;
+    try_depth(to, store, twice, ENTRIES)?;
+    try_depth(to, store, branch, ENTRIES)?;
+    try_depth(to, store, above, ENTRIES)?;
+    try_depth(to, store, count, ENTRIES)?;
+    try_depth(to, store, 0, 200)?;
+    let boundless = Cells {
+        count: usize::MAX,
+        ..store
+    };
+    try_depth(to, boundless, 0, ENTRIES)
 }
 
 fn main(rt: HostRuntime) -> io::Result<()> {
@@ -214,14 +188,13 @@ fn main(rt: HostRuntime) -> io::Result<()> {
     let branch = add(&mut to, &mut count, &mut table, &mut bytes, pruned())?;
     let over = CellBuilder::new(false).store_reference(branch).builder;
     let above = add(&mut to, &mut count, &mut table, &mut bytes, over)?;
+    let store = store_of(count, &table, &bytes);
     run(
         &mut to,
-        count,
-        &table,
-        &bytes,
-        wide(path),
-        wide(twice),
-        wide(branch),
-        wide(above),
+        store,
+        path as usize,
+        twice as usize,
+        branch as usize,
+        above as usize,
     )
 }

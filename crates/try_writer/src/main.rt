@@ -4,11 +4,12 @@
 #![tactic(auto)]
 
 use crc32c::crc32c;
-use reader::ReadAnswer;
-use scheme::{DATA_LEN, MAX_CELLS, RECORD_LEN};
+use memory::{Cells, entry};
+use reader::Counts;
+use scheme::{DATA_LEN, MAX_CELLS, RECORD_LEN, Refusal};
 use std::io;
 use std::io::Write;
-use writer::{BagOfCellsArgs, Wrote};
+use writer::BagOfCellsArgs;
 
 // Records of the largest store, the scratch for them, and the output.
 const ROOM: usize = 256;
@@ -51,10 +52,6 @@ fn out_room() -> [u8; OUT] {
     [BEFORE; OUT]
 }
 
-fn wide(x: u32) -> usize {
-    x as usize
-}
-
 // Sets number i of the table, where there is one.
 fn set_number(table: &mut [u32], i: usize, v: u32) {
     if i < table.len() {
@@ -63,7 +60,7 @@ fn set_number(table: &mut [u32], i: usize, v: u32) {
 }
 
 fn value(c: u8) -> u32 {
-    if c < b'0' { 0 } else { (c - b'0') as u32 }
+    if c < b'0' { 0 } else { u32::from(c - b'0') }
 }
 
 // Sets a number by place i of a text of rows: seven digits for a record, and a space between two.
@@ -76,17 +73,14 @@ fn set_digit(table: &mut [u32], i: usize, c: u8) {
 
 // Sets the records: flag, bits, how many references, and four references each.
 fn set_rows(table: &mut [u32], rows: &[u8]) {
-    for i in 0..rows.len() {
-        set_digit(table, i, rows[i]);
+    for (i, digit) in rows.iter().enumerate() {
+        set_digit(table, i, *digit);
     }
 }
 
 // Sets byte k of the data of cell i, where there is one.
 fn set_byte(bytes: &mut [u8], i: usize, k: usize, b: u8) {
-    if i >= MAX_CELLS {
-        return;
-    }
-    if k >= DATA_LEN {
+    if i >= MAX_CELLS || k >= DATA_LEN {
         return;
     }
     let at = i * DATA_LEN + k;
@@ -95,33 +89,25 @@ fn set_byte(bytes: &mut [u8], i: usize, k: usize, b: u8) {
     }
 }
 
-fn all_zero(xs: &[u32]) -> bool {
-    let mut zero = true;
-    for i in 0..xs.len() {
-        if xs[i] != 0 {
-            zero = false;
-        }
+fn store_of<'a>(count: usize, table: &'a [u32], bytes: &'a [u8]) -> Cells<'a> {
+    Cells {
+        count,
+        table,
+        bytes,
     }
-    zero
+}
+
+fn all_zero(xs: &[u32]) -> bool {
+    xs.iter().all(|x| *x == 0)
 }
 
 fn all_kept(xs: &[u8]) -> bool {
-    let mut kept = true;
-    for i in 0..xs.len() {
-        if xs[i] != BEFORE {
-            kept = false;
-        }
-    }
-    kept
+    xs.iter().all(|x| *x == BEFORE)
 }
 
 fn show_kept<W: Write>(to: &mut W, xs: &[u8]) -> io::Result<()> {
-    if all_kept(xs) {
-        show::text(to, b" kept")?;
-    } else {
-        show::text(to, b" CHANGED")?;
-    }
-    Ok(())
+    let kept = if all_kept(xs) { "kept" } else { "CHANGED" };
+    write!(to, " {kept}")
 }
 
 // The first bytes of a bag, which hold its size and total, the checksum of all of it, and its last bytes.
@@ -158,34 +144,23 @@ fn show_same<W: Write>(to: &mut W, bag: &[u8], out: &[u8], long: usize) -> io::R
     if long > out.len() {
         return Ok(());
     }
-    if bag == &out[..long] {
-        show::text(to, b" same")?;
-    } else {
-        show::text(to, b" other")?;
-    }
-    Ok(())
+    let same = if bag == &out[..long] { "same" } else { "other" };
+    write!(to, " {same}")
 }
 
 // Writes cell n of a store with the options of the bag, and compares with it.
-fn write_again<W: Write>(
-    to: &mut W,
-    bag: &[u8],
-    count: usize,
-    table: &[u32],
-    bytes: &[u8],
-    n: usize,
-) -> io::Result<()> {
+fn write_again<W: Write>(to: &mut W, bag: &[u8], store: Cells, n: usize) -> io::Result<()> {
     let args = args_of(bag);
     let mut scratch = scratch_room();
     let mut out = out_room();
-    let r = writer::serialize(count, table, bytes, n, args, &mut scratch, &mut out);
+    let r = writer::serialize(store, n, args, &mut scratch, &mut out);
     match r {
-        Wrote::Bytes(long) => {
-            show_same(to, bag, &out, long)?;
+        Ok(long) => show_same(to, bag, &out, long),
+        Err(refusal) => {
+            let number = refusal.reason.number();
+            write!(to, " {number}")
         }
-        Wrote::Refused(refusal) => show::spaced(to, wide(refusal.number))?,
     }
-    Ok(())
 }
 
 // Reads a bag into this empty store.
@@ -200,21 +175,18 @@ fn read_into<W: Write>(
     let mut roots = [0u32; 1];
     let r = reader::unpack_fully(bag, &mut count, table, bytes, &mut scratch, &mut roots);
     match r {
-        ReadAnswer::Done(counts) => {
-            show::text(to, b" read")?;
-            show::spaced(to, counts.used)?;
-            show::spaced(to, counts.cells)?;
-            show::spaced(to, counts.roots)?;
-            show::spaced(to, counts.added)?;
-            write_again(to, bag, count, table, bytes, wide(roots[0]))?;
+        Ok(counts) => {
+            let Counts {
+                used,
+                cells,
+                roots: listed,
+                added,
+            } = counts;
+            write!(to, " read {used} {cells} {listed} {added}")?;
+            write_again(to, bag, store_of(count, table, bytes), entry(&roots, 0))
         }
-        ReadAnswer::Refused(refusal) => {
-            show::text(to, b" refused")?;
-            show::spaced(to, wide(refusal.number))?;
-            show::spaced(to, refusal.place)?;
-        }
+        Err(refusal) => write!(to, " {refusal}"),
     }
-    Ok(())
 }
 
 fn read_short<W: Write>(to: &mut W, bag: &[u8]) -> io::Result<()> {
@@ -246,34 +218,30 @@ fn show_bag<W: Write>(to: &mut W, out: &[u8], n: usize) -> io::Result<()> {
     show_kept(to, &out[n..])
 }
 
-fn show_outcome<W: Write>(to: &mut W, r: Wrote, scratch: &[u32], out: &[u8]) -> io::Result<()> {
+fn show_outcome<W: Write>(
+    to: &mut W,
+    r: Result<usize, Refusal>,
+    scratch: &[u32],
+    out: &[u8],
+) -> io::Result<()> {
     match r {
-        Wrote::Bytes(n) => {
-            show::text(to, b" ok")?;
-            show::spaced(to, n)?;
+        Ok(n) => {
+            write!(to, " ok {n}")?;
             show_bag(to, out, n)?;
         }
-        Wrote::Refused(refusal) => {
-            show::text(to, b" refused")?;
-            show::spaced(to, wide(refusal.number))?;
-            show::spaced(to, refusal.place)?;
+        Err(refusal) => {
+            write!(to, " {refusal}")?;
             show_kept(to, out)?;
         }
     }
-    if all_zero(scratch) {
-        show::text(to, b" zeroed\n")?;
-    } else {
-        show::text(to, b" LEFT\n")?;
-    }
-    Ok(())
+    let left = if all_zero(scratch) { "zeroed" } else { "LEFT" };
+    writeln!(to, " {left}")
 }
 
 // One write, with all of this scratch and so many bytes of the output lent.
 fn write_lent<W: Write>(
     to: &mut W,
-    count: usize,
-    table: &[u32],
-    bytes: &[u8],
+    store: Cells,
     n: usize,
     args: BagOfCellsArgs,
     room: usize,
@@ -283,16 +251,14 @@ fn write_lent<W: Write>(
     if room > out.len() {
         return Ok(());
     }
-    let r = writer::serialize(count, table, bytes, n, args, scratch, &mut out[..room]);
+    let r = writer::serialize(store, n, args, scratch, &mut out[..room]);
     show_outcome(to, r, scratch, out)
 }
 
 // The same, with so many of the scratch entries.
 fn write_into<W: Write>(
     to: &mut W,
-    count: usize,
-    table: &[u32],
-    bytes: &[u8],
+    store: Cells,
     n: usize,
     args: BagOfCellsArgs,
     entries: usize,
@@ -303,24 +269,12 @@ fn write_into<W: Write>(
     if entries > scratch.len() {
         return Ok(());
     }
-    write_lent(
-        to,
-        count,
-        table,
-        bytes,
-        n,
-        args,
-        room,
-        &mut scratch[..entries],
-        out,
-    )
+    write_lent(to, store, n, args, room, &mut scratch[..entries], out)
 }
 
 fn write_within<W: Write>(
     to: &mut W,
-    count: usize,
-    table: &[u32],
-    bytes: &[u8],
+    store: Cells,
     n: usize,
     args: BagOfCellsArgs,
     entries: usize,
@@ -328,55 +282,35 @@ fn write_within<W: Write>(
 ) -> io::Result<()> {
     let mut scratch = scratch_room();
     let mut out = out_room();
-    write_into(
-        to,
-        count,
-        table,
-        bytes,
-        n,
-        args,
-        entries,
-        room,
-        &mut scratch,
-        &mut out,
-    )
+    write_into(to, store, n, args, entries, room, &mut scratch, &mut out)
 }
 
 fn write<W: Write>(
     to: &mut W,
     name: &[u8],
-    count: usize,
-    table: &[u32],
-    bytes: &[u8],
+    store: Cells,
     n: usize,
     args: BagOfCellsArgs,
 ) -> io::Result<()> {
-    if count > ROOM {
+    if store.count > ROOM {
         return Ok(());
     }
     show::text(to, name)?;
-    write_within(to, count, table, bytes, n, args, 4 * count, OUT)
+    write_within(to, store, n, args, 4 * store.count, OUT)
 }
 
 // The four bags of one root: plain, with an index, with a checksum, with both.
-fn write_all<W: Write>(
-    to: &mut W,
-    name: &[u8],
-    count: usize,
-    table: &[u32],
-    bytes: &[u8],
-    n: usize,
-) -> io::Result<()> {
-    write(to, name, count, table, bytes, n, with(false, false))?;
-    write(to, name, count, table, bytes, n, with(true, false))?;
-    write(to, name, count, table, bytes, n, with(false, true))?;
-    write(to, name, count, table, bytes, n, with(true, true))
+fn write_all<W: Write>(to: &mut W, name: &[u8], store: Cells, n: usize) -> io::Result<()> {
+    write(to, name, store, n, with(false, false))?;
+    write(to, name, store, n, with(true, false))?;
+    write(to, name, store, n, with(false, true))?;
+    write(to, name, store, n, with(true, true))
 }
 
 // Sets the first data byte of each cell.
 fn set_firsts(bytes: &mut [u8], firsts: &[u8]) {
-    for i in 0..firsts.len() {
-        set_byte(bytes, i, 0, firsts[i]);
+    for (i, first) in firsts.iter().enumerate() {
+        set_byte(bytes, i, 0, *first);
     }
 }
 
@@ -388,20 +322,22 @@ fn set_bytes(bytes: &mut [u8], i: usize, count: usize, b: u8) {
 }
 
 // The cell of 32 bits, and each refusal, in their order.
-fn write_number<W: Write>(to: &mut W, table: &[u32], bytes: &[u8]) -> io::Result<()> {
-    write_all(to, b"number", 1, table, bytes, 0)?;
+fn write_number<W: Write>(to: &mut W, store: Cells) -> io::Result<()> {
+    write_all(to, b"number", store, 0)?;
     show::text(to, b"just enough")?;
-    write_within(to, 1, table, bytes, 0, with(false, false), 4, 17)?;
+    write_within(to, store, 0, with(false, false), 4, 17)?;
     show::text(to, b"room")?;
-    write_within(to, 1, table, bytes, 0, with(false, false), 4, 16)?;
+    write_within(to, store, 0, with(false, false), 4, 16)?;
     show::text(to, b"room")?;
-    write_within(to, 1, table, bytes, 0, with(true, true), 4, 0)?;
+    write_within(to, store, 0, with(true, true), 4, 0)?;
     show::text(to, b"scratch")?;
-    write_within(to, 1, table, bytes, 0, with(false, false), 3, 0)?;
+    write_within(to, store, 0, with(false, false), 3, 0)?;
     show::text(to, b"cell")?;
-    write_within(to, 1, table, bytes, 1, with(false, false), 0, 0)?;
+    write_within(to, store, 1, with(false, false), 0, 0)?;
     show::text(to, b"store")?;
-    write_within(to, 3, table, bytes, 4, with(false, false), 5, 5)
+    // More cells than there are records.
+    let odd = Cells { count: 3, ..store };
+    write_within(to, odd, 4, with(false, false), 5, 5)
 }
 
 fn set_data(bytes: &mut [u8]) {
@@ -414,17 +350,17 @@ fn try_number<W: Write>(to: &mut W) -> io::Result<()> {
     let mut bytes = [0u8; 256];
     set_number(&mut table, 1, 32);
     set_data(&mut bytes);
-    write_number(to, &table, &bytes)
+    write_number(to, store_of(1, &table, &bytes))
 }
 
 // Bits that end in a byte and between bytes, and an exotic cell.
-fn write_bits<W: Write>(to: &mut W, table: &[u32], bytes: &[u8]) -> io::Result<()> {
-    write_all(to, b"empty", 6, table, bytes, 0)?;
-    write_all(to, b"three bits", 6, table, bytes, 1)?;
-    write_all(to, b"1016 bits", 6, table, bytes, 2)?;
-    write_all(to, b"1017 bits", 6, table, bytes, 3)?;
-    write_all(to, b"1023 bits", 6, table, bytes, 4)?;
-    write_all(to, b"exotic", 6, table, bytes, 5)
+fn write_bits<W: Write>(to: &mut W, store: Cells) -> io::Result<()> {
+    write_all(to, b"empty", store, 0)?;
+    write_all(to, b"three bits", store, 1)?;
+    write_all(to, b"1016 bits", store, 2)?;
+    write_all(to, b"1017 bits", store, 3)?;
+    write_all(to, b"1023 bits", store, 4)?;
+    write_all(to, b"exotic", store, 5)
 }
 
 fn set_lengths(table: &mut [u32]) {
@@ -449,13 +385,13 @@ fn try_bits<W: Write>(to: &mut W) -> io::Result<()> {
     set_lengths(&mut table);
     set_firsts(&mut bytes, b"\x00\xa0\x00\x00\x00\xff");
     set_long(&mut bytes);
-    write_bits(to, &table, &bytes)
+    write_bits(to, store_of(6, &table, &bytes))
 }
 
 // aa refers to bb and cc, both to an empty cell; then from bb alone.
-fn write_diamond<W: Write>(to: &mut W, table: &[u32], bytes: &[u8]) -> io::Result<()> {
-    write_all(to, b"diamond", 4, table, bytes, 3)?;
-    write_all(to, b"bb", 4, table, bytes, 1)
+fn write_diamond<W: Write>(to: &mut W, store: Cells) -> io::Result<()> {
+    write_all(to, b"diamond", store, 3)?;
+    write_all(to, b"bb", store, 1)
 }
 
 fn try_diamond<W: Write>(to: &mut W) -> io::Result<()> {
@@ -463,15 +399,15 @@ fn try_diamond<W: Write>(to: &mut W) -> io::Result<()> {
     let mut bytes = [0u8; 512];
     set_rows(&mut table, b"0000000 0810000 0810000 0821200");
     set_firsts(&mut bytes, b"\x00\xbb\xcc\xaa");
-    write_diamond(to, &table, &bytes)
+    write_diamond(to, store_of(4, &table, &bytes))
 }
 
 // Children that wait for a later parent, and children that one parent names more than once.
-fn write_order<W: Write>(to: &mut W, table: &[u32], bytes: &[u8]) -> io::Result<()> {
-    write_all(to, b"root, b, d", 7, table, bytes, 2)?;
-    write_all(to, b"d, b, d", 7, table, bytes, 3)?;
-    write_all(to, b"d four times", 7, table, bytes, 4)?;
-    write_all(to, b"all", 7, table, bytes, 6)
+fn write_order<W: Write>(to: &mut W, store: Cells) -> io::Result<()> {
+    write_all(to, b"root, b, d", store, 2)?;
+    write_all(to, b"d, b, d", store, 3)?;
+    write_all(to, b"d four times", store, 4)?;
+    write_all(to, b"all", store, 6)
 }
 
 fn try_order<W: Write>(to: &mut W) -> io::Result<()> {
@@ -482,15 +418,12 @@ fn try_order<W: Write>(to: &mut W) -> io::Result<()> {
         b"0800000 0810000 0020100 0030100 0040000 0044232 0045051",
     );
     set_firsts(&mut bytes, b"\x0d\x0b");
-    write_order(to, &table, &bytes)
+    write_order(to, store_of(7, &table, &bytes))
 }
 
 // Cell i refers to the one before; no data.
 fn set_link(table: &mut [u32], i: usize) {
-    if i == 0 {
-        return;
-    }
-    if i >= MAX_CELLS {
+    if i == 0 || i >= MAX_CELLS {
         return;
     }
     set_number(table, i * RECORD_LEN + 2, 1);
@@ -503,33 +436,23 @@ fn set_chain(table: &mut [u32], n: usize) {
     }
 }
 
-fn write_chain<W: Write>(
-    to: &mut W,
-    name: &[u8],
-    count: usize,
-    table: &[u32],
-    bytes: &[u8],
-    n: usize,
-) -> io::Result<()> {
-    write(to, name, count, table, bytes, n, with(false, false))?;
-    write(to, name, count, table, bytes, n, with(true, true))
+fn write_chain<W: Write>(to: &mut W, name: &[u8], store: Cells, n: usize) -> io::Result<()> {
+    write(to, name, store, n, with(false, false))?;
+    write(to, name, store, n, with(true, true))
 }
 
 fn try_chains<W: Write>(to: &mut W) -> io::Result<()> {
     let mut table = table_room();
     let bytes = bytes_room();
     set_chain(&mut table, 255);
-    write_chain(to, b"chain of 255", 255, &table, &bytes, 254)?;
+    write_chain(to, b"chain of 255", store_of(255, &table, &bytes), 254)?;
     set_link(&mut table, 255);
-    write_chain(to, b"chain of 256", 256, &table, &bytes, 255)
+    write_chain(to, b"chain of 256", store_of(256, &table, &bytes), 255)
 }
 
 // The number of the cell that stands so far before cell i, or 0.
 fn lower(i: usize, back: usize) -> u32 {
-    if i >= MAX_CELLS {
-        return 0;
-    }
-    if i < back {
+    if i >= MAX_CELLS || i < back {
         return 0;
     }
     (i - back) as u32
@@ -541,10 +464,7 @@ fn first_byte(bits: u32) -> u8 {
 
 // Sets reference k of cell i, where its record has one.
 fn set_reference(table: &mut [u32], i: usize, k: usize, r: u32) {
-    if i >= MAX_CELLS {
-        return;
-    }
-    if k >= i % 5 {
+    if i >= MAX_CELLS || k >= i % 5 {
         return;
     }
     set_number(table, i * RECORD_LEN + 3 + k, r);
@@ -590,10 +510,10 @@ fn set_first_bytes(bytes: &mut [u8], n: usize) {
     }
 }
 
-fn write_web<W: Write>(to: &mut W, table: &[u32], bytes: &[u8]) -> io::Result<()> {
-    write_all(to, b"web", WEB, table, bytes, WEB - 1)?;
-    write(to, b"part", WEB, table, bytes, 99, with(true, false))?;
-    write(to, b"part", WEB, table, bytes, 64, with(false, true))
+fn write_web<W: Write>(to: &mut W, store: Cells) -> io::Result<()> {
+    write_all(to, b"web", store, WEB - 1)?;
+    write(to, b"part", store, 99, with(true, false))?;
+    write(to, b"part", store, 64, with(false, true))
 }
 
 fn try_web<W: Write>(to: &mut W) -> io::Result<()> {
@@ -601,7 +521,7 @@ fn try_web<W: Write>(to: &mut W) -> io::Result<()> {
     let mut bytes = web_bytes_room();
     set_web(&mut table, WEB);
     set_first_bytes(&mut bytes, WEB);
-    write_web(to, &table, &bytes)
+    write_web(to, store_of(WEB, &table, &bytes))
 }
 
 fn main(rt: HostRuntime) -> io::Result<()> {

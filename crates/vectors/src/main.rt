@@ -2,7 +2,7 @@
 // and the reply. Numbers have the high byte first. A store or a reply that is longer than the memory here ends the run.
 #![tactic(auto)]
 
-ghost use Rattle.std.specs.Prelude.{◌≡◌, ◌*◌, ◌≤◌, ◌<◌, length};
+ghost use Rattle.std.specs.Prelude.{◌≡◌, ◌*◌, ◌≤◌, length};
 
 use scheme::{DATA_LEN, RECORD_LEN};
 use std::io;
@@ -21,27 +21,15 @@ const BYTES_LEN: usize = CELLS * DATA_LEN;
 
 const SCRATCH_LEN: usize = CELLS * SCRATCH_PER_CELL;
 
-fn wide(x: u8) -> usize
-    ensures { result < 256 }
-{
-    x as usize
-}
-
-// What stands in front of a reply: the cells of the store, and the length; or the end of the cases.
-#[derive(Drop)]
-pub enum Head {
-    Case(usize, usize),
-    End,
-}
-
-fn read_head<R: Read>(from: &mut R) -> io::Result<Head> {
+// What stands in front of a reply: the cells of the store, and the length; or none at the end of the cases.
+fn read_head<R: Read>(from: &mut R) -> io::Result<Option<(usize, usize)>> {
     let mut head = [0u8; HEAD_LEN];
     if read_full(from, &mut head)? < HEAD_LEN {
-        return Ok(Head::End);
+        return Ok(None);
     }
-    let cells = wide(head[0]) * 256 + wide(head[1]);
-    let len = ((wide(head[2]) * 256 + wide(head[3])) * 256 + wide(head[4])) * 256 + wide(head[5]);
-    Ok(Head::Case(cells, len))
+    let cells = u16::from_be_bytes([head[0], head[1]]);
+    let len = u32::from_be_bytes([head[2], head[3], head[4], head[5]]);
+    Ok(Some((usize::from(cells), len as usize)))
 }
 
 // Prints the report of a reply, with the memory of a store of so many cells.
@@ -84,13 +72,10 @@ fn tell_next<R: Read, W: Write>(
 ) -> io::Result<bool>
     requires { (length table.old ≡ 512 * 7) × (length bytes.old ≡ 512 * 128) × (length scratch.old ≡ 512 * 2) }
 {
-    let Head::Case(cells, len) = read_head(from)? else {
+    let Some((cells, len)) = read_head(from)? else {
         return Ok(false);
     };
-    if input.len() < len {
-        return Ok(false);
-    }
-    if CELLS < cells {
+    if input.len() < len || CELLS < cells {
         return Ok(false);
     }
     let n = read_full(from, &mut input[..len])?;
@@ -111,7 +96,7 @@ fn scratch_room() -> [u32; SCRATCH_LEN] {
     [0u32; SCRATCH_LEN]
 }
 
-// A loop that is proved has to end, so the turns count down, from a number that no run uses up.
+// A loop that is proved has to end, so it has a number of turns, which no run uses up.
 fn main(rt: HostRuntime) -> io::Result<()> {
     let mut from = rt.stdin();
     let mut to = rt.stdout();
@@ -121,9 +106,8 @@ fn main(rt: HostRuntime) -> io::Result<()> {
     let mut scratch = scratch_room();
     let mut roots = [0u32; ROOTS_LEN];
     let mut out = out_room();
-    let mut turns = u64::MAX;
-    while turns > 0
-        && tell_next(
+    for _ in 0..u64::MAX {
+        if !tell_next(
             &mut from,
             &mut to,
             &mut input,
@@ -132,9 +116,9 @@ fn main(rt: HostRuntime) -> io::Result<()> {
             &mut scratch,
             &mut roots,
             &mut out,
-        )?
-    {
-        turns -= 1;
+        )? {
+            break;
+        }
     }
     Ok(())
 }

@@ -2,10 +2,10 @@
 use Rattle.std.specs.Prelude.{ℕ, ◌-◌, List, ◌++◌, not, length, take, replicate, eqb}
 use Rattle.scheme.specs.Builder.{Builder}
 
--- the first m of xs, and 0 for each that xs lacks
-unfoldable pub fit : ℕ → List ℕ → List ℕ
-fit m xs = take m xs ++ replicate (m - length xs) 0
+-- the first m of xs, and x for each that xs lacks
+unfoldable pub fit : {A : Type 0} → ℕ → A → List A → List A
+fit m x xs = take m xs ++ replicate (m - length xs) x
 
 -- any flag but 0 is exotic; the references count also where there are more than 4
 unfoldable pub wire_cell : ℕ → ℕ → List ℕ → List ℕ → Builder
-wire_cell flag bits own refs = record { exotic = not (eqb flag 0); len = bits; bytes = fit 128 own; count = length refs; refs = fit 4 refs }
+wire_cell flag bits own refs = record { exotic = not (eqb flag 0); len = bits; bytes = fit 128 0 own; count = length refs; refs = fit 4 0 refs }

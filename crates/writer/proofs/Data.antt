@@ -2,11 +2,11 @@
 use mathlib.Core.Path.{◌≡◌, refl, sym, ap, ◌∙◌}
 use mathlib.Core.Bool.{Bool, true, false, cond}
 use mathlib.Core.List.{List, [], ◌∷◌, ◌++◌}
-use Prim.Native.Nat.{ℕ, zero, suc, ◌+◌, ◌-◌, ◌*◌, ◌/◌, ◌%◌, ◌^◌, ◌<◌}
+use Prim.Native.Nat.{ℕ, zero, suc, ◌+◌, ◌-◌, ◌*◌, ◌/◌, ◌%◌, ◌^◌, ◌<◌, ◌≤◌}
 use native.Mathlib.Nat.{not-suc-le-zero}
 use native.Mathlib.Omega.{arith}
-use lib.ListN.{length, take, drop, get_or, length-append, length-drop}
-use lib.Seq.{take-suc, get_or-drop, length-take-le}
+use lib.ListN.{length, take, drop, get_or, length-append, length-take, length-drop}
+use lib.Seq.{take-take, take-suc, get_or-drop, get_or-take, length-take-le}
 use lib.Dec.{eqb}
 use borrow.Author.Tests.{eq-eqb, ne_eqb}
 use Rattle.scheme.specs.Bits.{bytes_for, mark}
@@ -94,15 +94,27 @@ cell-length t d s n size x ok =
 
 -- ---- as the code has it
 
-module _ (t d : List ℕ) (x len : ℕ) (q : len ≡ get_or t (x * 7 + 1) 0) where
-  part-long : x * 128 + len / 8 - x * 128 ≡ len / 8
-  part-long = omega arith
+module _ {t d w : List ℕ} {x len : ℕ} (v : w ≡ take 128 (drop (x * 128) d)) (q : len ≡ get_or t (x * 7 + 1) 0) (ok : CellOk t d x) where
+  short : len / 8 < 128
+  short = omega (arith, ok.ok.bits)
 
-  pub put_whole : len % 8 ≡ 0 → take (x * 128 + len / 8 - x * 128) (drop (x * 128) d) ≡ padded (cell_at t d x)
-  put_whole e = rw part-long (rw q (sym (data_whole t d x (rw q at e))))
+  front : take (len / 8) w ≡ take (len / 8) (drop (x * 128) d)
+  front = rw v (take-take (len / 8) 128 (drop (x * 128) d) (omega (arith, short)))
 
-  pub put-part : CellOk t d x → (len % 8 ≡ 0 → ⊥) → padded (cell_at t d x) ≡ take (x * 128 + len / 8 - x * 128) (drop (x * 128) d) ++ (get_or d (x * 128 + len / 8) 0 + 2 ^ (7 - len % 8)) ∷ []
-  put-part ok e = rw part-long (rw q (data_part t d x ok (rw q at e)))
+  last : get_or w (len / 8) 0 ≡ get_or d (x * 128 + len / 8) 0
+  last = rw v (get_or-take 128 (drop (x * 128) d) (len / 8) 0 short ∙ get_or-drop (x * 128) d (len / 8) 0)
 
-  pub put-fits : CellOk t d x → (len % 8 ≡ 0 → ⊥) → get_or d (x * 128 + len / 8) 0 < 256 → get_or d (x * 128 + len / 8) 0 + 2 ^ (7 - len % 8) < 256
-  put-fits ok e b = rw q (mark-fits t d x ok (rw q at e) (rw q at b))
+  pub put_whole : len % 8 ≡ 0 → take (len / 8) w ≡ padded (cell_at t d x)
+  put_whole e = rw front (rw q (sym (data_whole t d x (rw q at e))))
+
+  pub put-part : (len % 8 ≡ 0 → ⊥) → padded (cell_at t d x) ≡ take (len / 8) w ++ (get_or w (len / 8) 0 + 2 ^ (7 - len % 8)) ∷ []
+  put-part e = rw (front, last) (rw q (data_part t d x ok (rw q at e)))
+
+  pub put-fits : (len % 8 ≡ 0 → ⊥) → get_or w (len / 8) 0 < 256 → get_or w (len / 8) 0 + 2 ^ (7 - len % 8) < 256
+  put-fits e b = rw last (rw q (mark-fits t d x ok (rw q at e) (rw (last, q) at b)))
+
+  -- the whole bytes are a part of what is written
+  pub front-long : length (take (len / 8) w) ≤ length (padded (cell_at t d x))
+  front-long =
+      let b : length (padded (cell_at t d x)) ≡ bytes_for len = rw q (padded-length t d x ∙ bytes-length t d x ok) in
+      rw front (omega (arith, length-take (len / 8) (drop (x * 128) d)))

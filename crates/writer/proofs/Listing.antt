@@ -1,8 +1,8 @@
 -- A walk over the cells listed, and bytes written piece by piece. Assumes nothing.
-use mathlib.Core.Path.{◌≡◌, refl, sym, ap, ◌∙◌}
+use mathlib.Core.Path.{◌≡◌, refl, sym, ◌∙◌}
 use mathlib.Core.List.{List, [], ◌∷◌, ◌++◌, Memᴰ as Mem}
 use Prim.Native.Nat.{ℕ, ◌+◌, ◌*◌, ◌<◌, ◌≤◌}
-use native.Mathlib.Nat.{add-zero, add_assoc, mul-le-mul}
+use native.Mathlib.Nat.{add-zero, add_assoc}
 use native.Mathlib.Omega.{arith}
 use lib.ListN.{length, drop, get_or, length-append}
 use lib.Seq.{slice, slice_empty, length-slice}
@@ -42,9 +42,6 @@ module _ {X : List ℕ} {E : ℕ} (o : List ℕ) (to k n : ℕ) (rest : List ℕ
 pub next-done : {X : List ℕ} {E : ℕ} (o : List ℕ) (to : ℕ) → Next X E o to [] → (to ≡ E) × (o ≡ X)
 next-done o to N = (omega (arith, N.end), sym (puts-nil o to) ∙ N.left)
 
-pub next-length : (o₀ : List ℕ) (at : ℕ) (vs : List ℕ) {E : ℕ} (o : List ℕ) (to : ℕ) (rest : List ℕ) → Next (puts o₀ at vs) E o to rest → length o ≡ length o₀
-next-length o₀ at vs o to rest N = sym (puts-length o to rest) ∙ ap length N.left ∙ puts-length o₀ at vs
-
 -- ---- the cells listed
 
 module _ (s : List ℕ) (n m p x : ℕ) (h : p < m) (l : n + m ≤ length s) (q : x ≡ get_or s (n + p) 0) where
@@ -75,11 +72,6 @@ list-start s n m = rw (add-zero n) refl
 
 pub list-end : (s : List ℕ) (n m p : ℕ) → p ≤ m → m ≤ p → slice (n + p) (n + m) s ≡ []
 list-end s n m p h g = let e : p ≡ m = omega arith in rw e (slice_empty (n + m) s)
-
--- ---- sizes
-
-pub product_small : (size k : ℕ) → size ≤ 3 → k ≤ 4 → k * size ≤ 12
-product_small size k h g = mul-le-mul g h
 
 -- ---- references
 

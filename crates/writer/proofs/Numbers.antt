@@ -1,64 +1,56 @@
--- Numbers as bytes, written one by one, and the fewest bytes that hold a number. Assumes nothing.
-use mathlib.Core.Path.{◌≡◌, refl, ◌∙◌}
-use mathlib.Core.Bool.{true, false}
-use mathlib.Core.List.{List, [], ◌∷◌}
+-- Numbers as bytes: the library's are those of the definitions. Assumes nothing.
+use mathlib.Core.Path.{◌≡◌, refl, sym, subst, ◌∙◌}
+use mathlib.Core.List.{[], ◌∷◌, ◌++◌}
 use Prim.Native.Nat.{ℕ, zero, suc, ◌+◌, ◌-◌, ◌/◌, ◌%◌, ◌^◌, ◌<◌, ◌≤◌}
-use native.Mathlib.Nat.{not-suc-le-zero}
+use native.Mathlib.Nat.{zero-add, pow-suc, mul_comm, div-div-eq-div-mul}
 use native.Mathlib.Omega.{arith}
-use lib.ListN.{set, get_or}
-use lib.Dec.{eqb}
-use borrow.Author.Tests.{eq-eqb, ne_eqb}
-use Rattle.scheme.specs.Bytes.{be, le, width}
+use lib.ListN.{take, drop}
+use lib.Seq.{take_all}
+use Rattle.std.specs.Int.{byte_at, bytes_high_first, bytes_low_first}
+use Rattle.scheme.specs.Bytes.{be, le}
 use Rattle.laws.specs.Fields.{length-be}
-use Rattle.laws.specs.Puts.{puts, puts_one, puts-on, puts-set}
 
--- ---- a number as bytes
+-- ---- a number as bytes, as the library gives them
 
--- the last byte first
-pub be-turn : (l : List ℕ) (at i x : ℕ) (X : List ℕ) → 0 < i → puts l at (be i x) ≡ X → puts (set l (at + (i - 1)) (x % 256)) at (be (i - 1) (x / 256)) ≡ X
-be-turn l at zero x X h p = absurd (not-suc-le-zero h)
-be-turn l at (suc i) x X h p =
-    let e : suc i - 1 ≡ i = omega arith in
-    let k = length-be i (x / 256) in
-    rw e (puts-set l at (be i (x / 256)) (at + i) (x % 256) (omega arith) ∙ puts_one (puts l at (be i (x / 256))) (at + i) (x % 256) ∙ puts-on l (puts l at (be i (x / 256))) at (at + i) (be i (x / 256)) ((x % 256) ∷ []) refl (omega arith) ∙ p)
+byte-next : (i n : ℕ) → byte_at (suc i) n ≡ byte_at i (n / 256)
+byte-next zero n = refl
+byte-next (suc i) n = rw (pow-suc, mul_comm (256 ^ suc i) 256, div-div-eq-div-mul)
 
--- the low byte first
-pub le-turn : (l : List ℕ) (at i k x : ℕ) (X : List ℕ) → i < k → puts l (at + i) (le (k - i) x) ≡ X → puts (set l (at + i) (x % 256)) (at + (i + 1)) (le (k - (i + 1)) (x / 256)) ≡ X
-unfolding puts
-le-turn l at i k x X h p =
-    let e : k - i ≡ suc (k - (i + 1)) = omega arith in
-    let q : at + (i + 1) ≡ at + i + 1 = omega arith in
-    rw q (rw e at p)
+high-next : (k n : ℕ) → bytes_high_first (suc k) n ≡ bytes_high_first k (n / 256) ++ (n % 256) ∷ []
+high-next zero n = refl
+high-next (suc k) n = rw (byte-next k n, high-next k n)
 
--- ---- the fewest bytes
+high-is : (k n : ℕ) → bytes_high_first k n ≡ be k n
+high-is zero n = refl
+high-is (suc k) n = high-next k n ∙ rw (high-is k (n / 256))
 
-module _ (n : ℕ) where
-  pub width_1 : 0 < n → n < 256 → width 8 n ≡ 1
-  width_1 h g = let a : eqb n 0 ≡ false = ne_eqb n 0 (λ e. omega arith) in let b : eqb (n / 256) 0 ≡ true = eq-eqb (n / 256) 0 (omega arith) in rw (a, b) refl
+high-last : (j k n : ℕ) → drop j (bytes_high_first (j + k) n) ≡ be k n
+high-last zero k n = rw zero-add (high-is k n)
+high-last (suc j) k n = let e : suc j + k ≡ suc (j + k) = omega arith in rw e (high-last j k n)
 
-  pub width_2 : 256 ≤ n → n < 65536 → width 8 n ≡ 2
-  width_2 h g =
-      let a : eqb n 0 ≡ false = ne_eqb n 0 (λ e. omega arith) in
-      let b : eqb (n / 256) 0 ≡ false = ne_eqb (n / 256) 0 (λ e. omega arith) in
-      let d : eqb (n / 256 / 256) 0 ≡ true = eq-eqb (n / 256 / 256) 0 (omega arith) in
-      rw (a, b, d) refl
+-- the last k of m bytes
+pub be-last : (m k n : ℕ) → k ≤ m → take (m - (m - k)) (drop (m - k) (bytes_high_first m n)) ≡ be k n
+be-last m k n h =
+    let e : m ≡ m - k + k = omega arith in
+    let d : drop (m - k) (bytes_high_first m n) ≡ be k n = subst (λ (i : ℕ). drop (m - k) (bytes_high_first i n) ≡ be k n) (sym e) (high-last (m - k) k n) in
+    rw d (take_all (m - (m - k)) (be k n) (rw length-be (omega arith)))
 
-  pub width_3 : 65536 ≤ n → n < 16777216 → width 8 n ≡ 3
-  width_3 h g =
-      let a : eqb n 0 ≡ false = ne_eqb n 0 (λ e. omega arith) in
-      let b : eqb (n / 256) 0 ≡ false = ne_eqb (n / 256) 0 (λ e. omega arith) in
-      let d : eqb (n / 256 / 256) 0 ≡ false = ne_eqb (n / 256 / 256) 0 (λ e. omega arith) in
-      let f : eqb (n / 256 / 256 / 256) 0 ≡ true = eq-eqb (n / 256 / 256 / 256) 0 (omega arith) in
-      rw (a, b, d, f) refl
+low-next : (i k n : ℕ) → bytes_low_first (suc i) k n ≡ bytes_low_first i k (n / 256)
+low-next i zero n = refl
+low-next i (suc k) n = rw (byte-next i n, low-next (suc i) k n)
 
--- the table of `bit_after`
-pub bit_table : (r : ℕ) → r < 8 → get_or (128 ∷ 64 ∷ 32 ∷ 16 ∷ 8 ∷ 4 ∷ 2 ∷ 1 ∷ []) r 0 ≡ 2 ^ (7 - r)
-bit_table zero h = refl
-bit_table (suc zero) h = refl
-bit_table (suc (suc zero)) h = refl
-bit_table (suc (suc (suc zero))) h = refl
-bit_table (suc (suc (suc (suc zero)))) h = refl
-bit_table (suc (suc (suc (suc (suc zero))))) h = refl
-bit_table (suc (suc (suc (suc (suc (suc zero)))))) h = refl
-bit_table (suc (suc (suc (suc (suc (suc (suc zero))))))) h = refl
-bit_table (suc (suc (suc (suc (suc (suc (suc (suc r)))))))) h = absurd (omega arith)
+pub low-is : (k n : ℕ) → bytes_low_first 0 k n ≡ le k n
+low-is zero n = refl
+low-is (suc k) n = rw (low-next 0 k n, low-is k (n / 256))
+
+-- the bit behind the first r bits
+pub bit_behind : (r : ℕ) → r < 8 → 128 / 2 ^ r ≡ 2 ^ (7 - r)
+bit_behind zero h = refl
+bit_behind (suc zero) h = refl
+bit_behind (suc (suc zero)) h = refl
+bit_behind (suc (suc (suc zero))) h = refl
+bit_behind (suc (suc (suc (suc zero)))) h = refl
+bit_behind (suc (suc (suc (suc (suc zero))))) h = refl
+bit_behind (suc (suc (suc (suc (suc (suc zero)))))) h = refl
+bit_behind (suc (suc (suc (suc (suc (suc (suc zero))))))) h = refl
+bit_behind (suc (suc (suc (suc (suc (suc (suc (suc r)))))))) h = absurd (omega arith)

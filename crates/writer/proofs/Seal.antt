@@ -3,7 +3,7 @@ use mathlib.Core.Path.{◌≡◌, refl, sym, ap, ◌∙◌}
 use mathlib.Core.Bool.{Bool, true, false, cond}
 use mathlib.Core.List.{List, [], ◌∷◌, ◌++◌}
 use Prim.Native.Nat.{ℕ, suc, ◌+◌, ◌*◌, ◌≤◌}
-use native.Mathlib.Nat.{mul-le-mul, zero-add}
+use native.Mathlib.Nat.{zero-add}
 use native.Mathlib.Omega.{arith}
 use lib.ListN.{length, take, drop, length-append}
 use lib.Seq.{take_at}
@@ -30,10 +30,6 @@ checksum_yes has_crc o at e = rw e refl
 pub checksum-no : (has_crc : Bool) (o : List ℕ) (at : ℕ) → has_crc ≡ false → checksum_of has_crc o at ≡ []
 unfolding checksum_of
 checksum-no has_crc o at e = rw e refl
-
--- the checksum has room
-pub room_yes : (has_crc : Bool) (at k : ℕ) → has_crc ≡ true → at + cond has_crc 4 0 ≤ k → at + 4 ≤ k
-room_yes has_crc at k e h = rw e at h
 
 -- the body and then the checksum of the bytes before
 pub sealed_is : (has_crc : Bool) (o body o₁ : List ℕ) (at : ℕ) → at ≡ length body → length body ≤ length o → o₁ ≡ puts o 0 body → puts o₁ at (checksum_of has_crc o₁ at) ≡ puts o 0 (sealed_of has_crc body)
@@ -68,6 +64,3 @@ head-length flags m size off total =
     let c = length-append (be size 1) (be size 0 ++ (be off total ++ be size 0)) in
     let d = length-append (be size m) (be size 1 ++ (be size 0 ++ (be off total ++ be size 0))) in
     omega (arith, length-be size m, length-be size 1, length-be size 0, length-be off total)
-
-pub product-off : (off m : ℕ) → off ≤ 3 → m ≤ 4096 → off * m ≤ 12288
-product-off off m h g = mul-le-mul h g

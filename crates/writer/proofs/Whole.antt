@@ -1,4 +1,5 @@
 -- The bag by the numbers of the table and the scratch is the bag of the definitions, and each way out is a case of them. Assumes nothing.
+use Rattle.std.specs.Prelude.{Ok, Err}
 use mathlib.Core.Path.{◌≡◌, refl, sym, ap, ap₂, ◌∙◌}
 use mathlib.Core.Bool.{Bool, true, false, cond}
 use mathlib.Core.List.Memᴰ.{head as here}
@@ -10,7 +11,7 @@ use lib.ListN.{length, get_or, replicate, length-append}
 use lib.Seq.{slice, length-slice}
 use borrow.Author.Tests.{lt-ltb, le-ltb, le-leb, lt-leb}
 use Rattle.scheme.specs.Refusals.{STORE, NOCELL, SCRATCH, NOROOM}
-use Rattle.scheme.specs.Res.{Res, bad, ok, then, refusal}
+use Rattle.scheme.specs.Res.{Res, then, refusal}
 use Rattle.scheme.specs.declared.Refusal.{Refusal}
 use Rattle.scheme.specs.Bytes.{be, le, width}
 use Rattle.scheme.specs.Bits.{bit_of}
@@ -25,8 +26,6 @@ use Rattle.laws.specs.Puts.{puts, puts-start}
 use Rattle.laws.specs.Records.{refs_at, CellsOk, cell-refs, cells-length, cells_at_lem}
 use Rattle.order.specs.Queue.{Ordered}
 use Rattle.writer.specs.declared.BagOfCellsArgs.{BagOfCellsArgs}
-use Rattle.writer.specs.declared.Wrote.{Wrote}
-use Rattle.writer.specs.declared.Wrote.TheVariants.{Bytes, Refused}
 use Rattle.writer.specs.Paper.{Writes, Serialized}
 use Rattle.writer.specs.Bytes.{cell_size, sizes, index_of, places_of, placed_cell, placed_cells, head_bytes}
 use Rattle.writer.specs.Bag.{index_if, body_of, sealed_of, needed_of}
@@ -40,11 +39,11 @@ module _ (has_idx has_crc : Bool) (n : ℕ) (t d : List ℕ) (root : ℕ) (s o :
   abbrev given : Res (List ℕ)
   given = then (lent 4 n t d root (length s)) λ cs. serialized has_idx has_crc cs root (length o)
 
-  refused : (r : Refusal) → given ≡ bad r → Writes has_idx has_crc n t d root s o (Refused r) o
+  refused : (r : Refusal) → given ≡ Err r → Writes has_idx has_crc n t d root s o (Err r) o
   unfolding writing
   refused r e = record { answer = sym (ap (λ (g : Res (List ℕ)). (write_out s o g).answer) e); out = sym (ap (λ (g : Res (List ℕ)). (write_out s o g).out) e) }
 
-  wrote : (xs : List ℕ) → given ≡ ok xs → Writes has_idx has_crc n t d root s o (Bytes (length xs)) (onto xs o)
+  wrote : (xs : List ℕ) → given ≡ Ok xs → Writes has_idx has_crc n t d root s o (Ok (length xs)) (onto xs o)
   unfolding writing
   wrote xs e = record { answer = sym (ap (λ (g : Res (List ℕ)). (write_out s o g).answer) e); out = sym (ap (λ (g : Res (List ℕ)). (write_out s o g).out) e) }
 
@@ -54,30 +53,30 @@ module _ (has_idx has_crc : Bool) (n : ℕ) (t d : List ℕ) (root : ℕ) (s o :
   scratch-zero = go given
     where
       go : (g : Res (List ℕ)) → (write_out s o g).scratch ≡ replicate (length s) 0
-      go (bad r) = refl
-      go (ok xs) = refl
+      go (Err r) = refl
+      go (Ok xs) = refl
 
-  unsound : sound n t d ≡ false → given ≡ bad (refusal STORE 0)
+  unsound : sound n t d ≡ false → given ≡ Err (refusal STORE 0)
   unfolding lent held
   unsound e = rw e refl
 
-  pub refused-store : sound n t d ≡ false → Writes has_idx has_crc n t d root s o (Refused (refusal STORE 0)) o
+  pub refused-store : sound n t d ≡ false → Writes has_idx has_crc n t d root s o (Err (refusal STORE 0)) o
   refused-store e = refused (refusal STORE 0) (unsound e)
 
   module _ (e : sound n t d ≡ true) where
-    no_cell : n ≤ root → given ≡ bad (refusal NOCELL 0)
+    no_cell : n ≤ root → given ≡ Err (refusal NOCELL 0)
     unfolding lent held
     no_cell h = rw (e, cells-length n t d, le-ltb root n h) refl
 
-    pub refused-cell : n ≤ root → Writes has_idx has_crc n t d root s o (Refused (refusal NOCELL 0)) o
+    pub refused-cell : n ≤ root → Writes has_idx has_crc n t d root s o (Err (refusal NOCELL 0)) o
     refused-cell h = refused (refusal NOCELL 0) (no_cell h)
 
     module _ (h : root < n) where
-      no-scratch : length s < 4 * n → given ≡ bad (refusal SCRATCH (4 * n))
+      no-scratch : length s < 4 * n → given ≡ Err (refusal SCRATCH (4 * n))
       unfolding lent held
       no-scratch g = rw (e, cells-length n t d, lt-ltb root n h, lt-leb (4 * n) (length s) g) refl
 
-      pub refused-scratch : length s < 4 * n → Writes has_idx has_crc n t d root s o (Refused (refusal SCRATCH (4 * n))) o
+      pub refused-scratch : length s < 4 * n → Writes has_idx has_crc n t d root s o (Err (refusal SCRATCH (4 * n))) o
       refused-scratch g = refused (refusal SCRATCH (4 * n)) (no-scratch g)
 
       module _ (g : 4 * n ≤ length s) (xs : List ℕ) (x : xs ≡ write has_idx has_crc (cells_of n t d) root) where
@@ -85,22 +84,22 @@ module _ (has_idx has_crc : Bool) (n : ℕ) (t d : List ℕ) (root : ℕ) (s o :
         unfolding lent held
         at_last = rw (e, cells-length n t d, lt-ltb root n h, le-leb (4 * n) (length s) g) refl
 
-        no_room : length o < length xs → given ≡ bad (refusal NOROOM (length xs))
+        no_room : length o < length xs → given ≡ Err (refusal NOROOM (length xs))
         unfolding serialized
         no_room k = at_last ∙ rw (← x, lt-leb (length xs) (length o) k) refl
 
-        pub refused-room : (k : ℕ) → k ≡ length xs → length o < k → Writes has_idx has_crc n t d root s o (Refused (refusal NOROOM k)) o
+        pub refused-room : (k : ℕ) → k ≡ length xs → length o < k → Writes has_idx has_crc n t d root s o (Err (refusal NOROOM k)) o
         refused-room k q l = rw q (refused (refusal NOROOM (length xs)) (no_room (rw q at l)))
 
-        room : length xs ≤ length o → given ≡ ok xs
+        room : length xs ≤ length o → given ≡ Ok xs
         unfolding serialized
         room k = at_last ∙ rw (← x, le-leb (length xs) (length o) k) refl
 
-        pub accepted : (k : ℕ) → k ≡ length xs → k ≤ length o → (o' : List ℕ) → o' ≡ puts o 0 xs → Writes has_idx has_crc n t d root s o (Bytes k) o'
+        pub accepted : (k : ℕ) → k ≡ length xs → k ≤ length o → (o' : List ℕ) → o' ≡ puts o 0 xs → Writes has_idx has_crc n t d root s o (Ok k) o'
         accepted k q l o' p = let f : length xs ≤ length o = rw q at l in rw (q, p, puts-start o xs f) (wrote xs (room f))
 
 -- the answer, the output, and the scratch, zeroed last
-pub whole : {args : BagOfCellsArgs} {n : ℕ} {t d : List ℕ} {root : ℕ} {s o : List ℕ} {r : Wrote} {s' o' : List ℕ}
+pub whole : {args : BagOfCellsArgs} {n : ℕ} {t d : List ℕ} {root : ℕ} {s o : List ℕ} {r : Res ℕ} {s' o' : List ℕ}
     → Writes args.has_idx args.has_crc32c n t d root s o r o' → s' ≡ replicate (length s) 0 → Serialized args n t d root s o r s' o'
 whole {args} {n} {t} {d} {root} {s} {o} w z = record { answer = w.answer; scratch = z ∙ sym (scratch-zero args.has_idx args.has_crc32c n t d root s o); out = w.out }
 

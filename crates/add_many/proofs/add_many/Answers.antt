@@ -1,7 +1,5 @@
 -- `add_many::add_many` meets its contract. Assumes nothing.
 use mathlib.Core.Path.{sym, ◌∙◌}
-use lib.ListN.{length}
-use Rattle.add_many.specs.Batch.{cells_fit}
 use Rattle.add_many.proofs.Turn.{many-none, many-store, many-as}
 use Rattle.add_many.proofs.add_many.Goals as goal
 
@@ -16,18 +14,8 @@ returns-then-not-is_sound c =
     let a = c.args in
     many-as a.heads.now a.blocks.now _ _ a.count.now a.table.now a.bytes.now a.numbers.now _ _ _ _ _
     c.cells_in-k.ensures
-    (many-store a.heads.now a.blocks.now c.cells_in-k.result a.count.now a.table.now a.bytes.now
-    a.numbers.now c.if-k-eq0.false (sym c.is_sound.ensures ∙ c.if-not-is_sound.true))
-
-pub add_each-requires : goal.add_each-requires
-add_each-requires c =
-    record {
-      bytes_value = sym c.is_sound.ensures ∙ c.if-not-is_sound.false;
-      k_in_bounds = cells_fit
-          (length c.args.heads.now)
-          (length c.args.blocks.now)
-          (length c.args.numbers.now) c.cells_in-k.result c.cells_in-k.ensures;
-    }
+    (rw c.at.ensures (many-store a.heads.now a.blocks.now c.cells_in-k.result a.count.now a.table.now a.bytes.now
+    a.numbers.now c.if-k-eq0.false (sym c.is_sound.ensures ∙ c.if-not-is_sound.true)))
 
 pub returns : goal.returns
 returns c =

@@ -7,4 +7,4 @@ pub returns-then-at-bytes : goal.returns-then-at-bytes
 returns-then-at-bytes c = sym (byte-whole _ _ c.if-at-bytes.true)
 
 pub returns-else-at-bytes : goal.returns-else-at-bytes
-returns-else-at-bytes c = sym (byte_cut _ _ c.if-at-bytes.false)
+returns-else-at-bytes c = rw c.at.ensures (sym (byte_cut _ _ c.if-at-bytes.false))

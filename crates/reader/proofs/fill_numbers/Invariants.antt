@@ -10,9 +10,6 @@ use Rattle.reader.proofs.fill_numbers.Given as goal
 
 abbrev pub invariant-loop-k : goal.invariant-loop-k
 invariant-loop-k l =
-    (l.k ≤ l.count) × (length l.out ≡ length l.initial.out) × (l.place + (l.count - l.k) * l.size ≤ length l.reply)
-    × ((r : ℕ) → Mem r (numbers_at l.reply l.size (l.count - l.k) l.place) → r < l.cells)
-    × (puts l.out l.k (numbers_of l.scratch l.cells (numbers_at l.reply l.size (l.count - l.k) l.place)) ≡ puts l.initial.out 0 (numbers_of l.scratch l.cells (numbers_at l.reply l.size l.count l.at)))
-
-abbrev pub decreases-loop-k : goal.decreases-loop-k
-decreases-loop-k l = l.count - l.k
+    (l.place + (l.count - l.k) * l.o.size ≤ length l.reply)
+    × ((r : ℕ) → Mem r (numbers_at l.reply l.o.size (l.count - l.k) l.place) → r < l.o.cells)
+    × (puts l.out l.k (numbers_of l.scratch l.o.cells (numbers_at l.reply l.o.size (l.count - l.k) l.place)) ≡ puts l.initial.out 0 (numbers_of l.scratch l.o.cells (numbers_at l.reply l.o.size l.count l.at)))

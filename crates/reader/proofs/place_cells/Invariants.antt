@@ -8,7 +8,4 @@ use Rattle.reader.proofs.place_cells.Given as goal
 
 abbrev pub invariant-loop-i : goal.invariant-loop-i
 invariant-loop-i l =
-    Placed (capacity l.initial.table) l.cells l.initial.scratch l.i (load (cells_of l.initial.count l.initial.table l.initial.bytes) l.i (drop l.i (cells_at l.reply l.size (take l.cells l.initial.scratch)))) l.count l.table l.bytes l.scratch
-
-abbrev pub decreases-loop-i : goal.decreases-loop-i
-decreases-loop-i l = l.i
+    Placed (capacity l.initial.table) l.o.cells l.initial.scratch l.i (load (cells_of l.initial.count l.initial.table l.initial.bytes) l.i (drop l.i (cells_at l.reply l.o.size (take l.o.cells l.initial.scratch)))) l.count l.table l.bytes l.scratch

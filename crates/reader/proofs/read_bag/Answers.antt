@@ -3,5 +3,4 @@ use Rattle.reader.specs.Outcome.{cleared}
 use Rattle.reader.proofs.read_bag.Goals as goal
 
 pub returns : goal.returns
-returns c =
-    cleared _ _ _ _ _ _ _ _ _ _ _ _ _ _ c.read_in-answer.ensures c.zero_numbers.ensures
+returns c = cleared _ _ _ _ _ _ _ _ _ _ _ _ _ _ c.read_in-answer.ensures (c.fill.ensures.after (λ y e. e))

@@ -6,8 +6,13 @@ use Rattle.reader.proofs.store_bag.Goals as goal
 
 pub take_back-requires : goal.take_back-requires
 take_back-requires c =
-    let x = c.place_cells.ensures.full _ c.in-Refused.is in
+    let x = c.place_cells.ensures.full _ c.in-Err.is in
     record { bytes_value = x.sound-is; le_count = over-more _ _ _ _ _ c.requires.bytes_value _ _ _ x }
+
+pub returns-in-Err : goal.returns-in-Err
+returns-in-Err c =
+    let x = c.place_cells.ensures in
+    out-full _ _ _ _ _ _ _ c.requires.bytes_value c.requires.kept c.requires.whole _ _ _ _ (x.full _ c.in-Err.is) _ _ _ _ c.take_back.ensures x.long
 
 pub fill_numbers-requires : goal.fill_numbers-requires
 fill_numbers-requires c =
@@ -18,16 +23,10 @@ fill_numbers-requires c =
 
 pub overflow_sub-result : goal.overflow_sub-result
 overflow_sub-result c =
-    let p = c.place_cells.ensures.all c.in-Passed.is in
+    let p = c.place_cells.ensures.all c.in_default.is in
     count_grows _ _ _ _ _ c.args.roots.now _ c.requires.bytes_value c.requires.kept c.requires.whole _ _ _ _ p
 
-pub returns-in-Refused : goal.returns-in-Refused
-returns-in-Refused c =
-    let x = c.place_cells.ensures in
-    let f = x.full _ c.in-Refused.is in
-    out-full _ _ _ _ _ _ _ c.requires.bytes_value c.requires.kept c.requires.whole _ _ _ _ f _ _ _ _ c.take_back.ensures x.long
-
-pub returns-in-Passed : goal.returns-in-Passed
-returns-in-Passed c =
-    let p = c.place_cells.ensures.all c.in-Passed.is in
+pub returns : goal.returns
+returns c =
+    let p = c.place_cells.ensures.all c.in_default.is in
     out-done _ _ _ _ _ _ _ c.requires.bytes_value c.requires.kept c.requires.whole _ _ _ _ p _ c.fill_numbers.ensures

@@ -6,11 +6,8 @@ use Rattle.report.specs.Lines.{lines_of}
 use Rattle.laws.specs.Puts.{puts}
 use Rattle.report.proofs.put_lines.Given as goal
 
-abbrev pub invariant-loop-i : goal.invariant-loop-i
-invariant-loop-i l =
-    (l.i ≤ l.k) × (l.scratch ≡ l.initial.scratch) × (length l.page ≡ length l.initial.page)
-    × (length l.out ≡ length l.initial.out) × (l.to ≡ l.at + length (lines_of l.count l.table l.bytes l.roots l.i))
-    × (l.out ≡ puts l.initial.out l.at (lines_of l.count l.table l.bytes l.roots l.i))
-
-abbrev pub decreases-loop-i : goal.decreases-loop-i
-decreases-loop-i l = l.k - l.i
+abbrev pub invariant-loop-root : goal.invariant-loop-root
+invariant-loop-root l =
+    (l.scratch ≡ l.initial.scratch) × (length l.page ≡ length l.initial.page) × (length l.out ≡ length l.initial.out)
+    × (l.to ≡ l.at + length (lines_of l.store.count l.store.table.now l.store.bytes.now l.roots l.root-index))
+    × (l.out ≡ puts l.initial.out l.at (lines_of l.store.count l.store.table.now l.store.bytes.now l.roots l.root-index))

@@ -18,7 +18,7 @@ put_byte-requires c = omega (arith, ok-length c.args.used c.args.cells c.args.ro
 pub returns : goal.returns
 returns c =
     let a = c.args in
-    let w = c.put_bytes-a in
+    let w = c.put-a in
     let x = c.put_spaced-b in
     let y = c.put_spaced-d in
     let z = c.put_spaced-e in

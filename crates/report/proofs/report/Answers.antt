@@ -7,24 +7,24 @@ use Rattle.report.proofs.report.Goals as goal
 
 pub returns-then-reply-gt-MAX_INPUT : goal.returns-then-reply-gt-MAX_INPUT
 returns-then-reply-gt-MAX_INPUT c =
-    reported-long _ _ _ _ _ _ c.if-reply-gt-MAX_INPUT.true _ _ _ _ c.tell_long.ensures c.zero_numbers.ensures
+    reported-long _ _ _ _ _ _ c.if-reply-gt-MAX_INPUT.true _ _ _ _ c.tell_long.ensures (c.fill.ensures.after (λ y e. e))
 
 pub tell_bag-requires : goal.tell_bag-requires
 tell_bag-requires c =
     let small = small-mem c.args.reply.now (λ i. omega (arith, c.type_inv.reply i)) in
-    let g = read_done _ _ _ _ _ _ small _ _ _ _ c.clear.ensures _ _ _ _ _ _ c.unpack_fully.ensures _ c.in-Done.is in
+    let g = read_done _ _ _ _ _ _ small _ _ _ _ c.clear.ensures _ _ _ _ _ _ c.unpack_fully.ensures _ c.in-Ok.is in
     g.roots
 
-pub returns-in-Refused : goal.returns-in-Refused
-returns-in-Refused c =
+pub returns-in-Err : goal.returns-in-Err
+returns-in-Err c =
     let small = small-mem c.args.reply.now (λ i. omega (arith, c.type_inv.reply i)) in
-    let g = read-refused _ _ _ _ _ _ small _ _ _ _ c.clear.ensures _ _ _ _ _ _ c.unpack_fully.ensures _ c.in-Refused.is in
+    let g = read-refused _ _ _ _ _ _ small _ _ _ _ c.clear.ensures _ _ _ _ _ _ c.unpack_fully.ensures _ c.in-Err.is in
     let R = reported _ _ _ _ _ _ small _ _ _ _ c.clear.ensures _ _ _ _ _ _ c.unpack_fully.ensures c.if-reply-gt-MAX_INPUT.false in
     R _ g.lines _ _ _ _ c.tell_refused.ensures g.clean
 
-pub returns-in-Done : goal.returns-in-Done
-returns-in-Done c =
+pub returns-in-Ok : goal.returns-in-Ok
+returns-in-Ok c =
     let small = small-mem c.args.reply.now (λ i. omega (arith, c.type_inv.reply i)) in
-    let g = read_done _ _ _ _ _ _ small _ _ _ _ c.clear.ensures _ _ _ _ _ _ c.unpack_fully.ensures _ c.in-Done.is in
+    let g = read_done _ _ _ _ _ _ small _ _ _ _ c.clear.ensures _ _ _ _ _ _ c.unpack_fully.ensures _ c.in-Ok.is in
     let R = reported _ _ _ _ _ _ small _ _ _ _ c.clear.ensures _ _ _ _ _ _ c.unpack_fully.ensures c.if-reply-gt-MAX_INPUT.false in
     R _ g.lines _ _ _ _ c.tell_bag.ensures.told (c.tell_bag.ensures.clean ∙ g.clean)

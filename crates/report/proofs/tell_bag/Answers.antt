@@ -13,7 +13,7 @@ returns-then-out-len c =
     let a = c.args in
     let v = c.lines_len.ensures in
     let x : List ℕ = ok_line a.used a.cells a.k in
-    let y : List ℕ = lines_of a.count a.table.now a.bytes.now a.roots.now a.k in
+    let y : List ℕ = lines_of a.store.count a.store.table.now a.store.bytes.now a.roots.now a.k in
     let e = length-append x y in
     record { told = told-short (x ++ y) _ (omega arith) _ (omega arith); clean = v.clean }
 
@@ -27,7 +27,7 @@ returns c =
     let w = c.put_ok-at.ensures in
     let z = c.put_lines.ensures in
     let x : List ℕ = ok_line a.used a.cells a.k in
-    let y : List ℕ = lines_of a.count a.table.now a.bytes.now a.roots.now a.k in
+    let y : List ℕ = lines_of a.store.count a.store.table.now a.store.bytes.now a.roots.now a.k in
     let e = length-append x y in
     let b = both-put x y _ _ _ _ w.put w.next z.put in
     record { told = told (x ++ y) _ (omega arith) _ _ (omega arith) b; clean = z.clean ∙ v.clean }

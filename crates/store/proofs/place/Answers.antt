@@ -15,7 +15,7 @@ find_cell-number-requires c =
       bits_bound = (omega arith, omega arith, omega arith);
       start_le_count = (
         b,
-        none_below _ _ _ so (cell_of a.flag a.bits a.want.now a.refs.now) _ b
+        none_below _ _ _ so (cell_of a.cell.flag a.cell.bits a.cell.block.now a.cell.refs.now) _ b
             c.above.ensures,
       );
     }
@@ -23,28 +23,20 @@ find_cell-number-requires c =
 pub returns-then-number-n : goal.returns-then-number-n
 returns-then-number-n c =
     let a = c.args in
-    places-held a.count.now a.table.now a.bytes.now (cell_of a.flag a.bits a.want.now a.refs.now)
+    places-held a.count.now a.table.now a.bytes.now (cell_of a.cell.flag a.cell.bits a.cell.block.now a.cell.refs.now)
     (sound-is _ _ _ c.requires.bytes_value) _ c.find_cell-number.ensures c.if-number-n.true
 
 pub returns-then-table-n : goal.returns-then-table-n
 returns-then-table-n c =
     let a = c.args in
-    places-full a.count.now a.table.now a.bytes.now (cell_of a.flag a.bits a.want.now a.refs.now)
+    rw c.at.ensures (places-full a.count.now a.table.now a.bytes.now (cell_of a.cell.flag a.cell.bits a.cell.block.now a.cell.refs.now)
     (sound-is _ _ _ c.requires.bytes_value) _ c.find_cell-number.ensures
-    c.if-number-n.false c.if-table-n.true
-
-pub overflow_mul-n-2 : goal.overflow_mul-n-2
-overflow_mul-n-2 c = let so = sound-is _ _ _
-    c.requires.bytes_value in let z = so.lengths in omega arith
-
-pub put_bytes-requires : goal.put_bytes-requires
-put_bytes-requires c = let so = sound-is _ _ _
-    c.requires.bytes_value in let z = so.lengths in omega arith
+    c.if-number-n.false c.if-table-n.true)
 
 pub returns : goal.returns
 returns c =
     let a = c.args in
-    places-new a.count.now a.table.now a.bytes.now (cell_of a.flag a.bits a.want.now a.refs.now)
+    places-new a.count.now a.table.now a.bytes.now (cell_of a.cell.flag a.cell.bits a.cell.block.now a.cell.refs.now)
     (sound-is _ _ _ c.requires.bytes_value) _ c.find_cell-number.ensures c.if-number-n.false
-    c.if-table-n.false (bytes_fit a.bits a.want.now
-    c.requires.flag_bound.1) a.want.now _ _ c.requires.want_value c.put_row.ensures c.put_bytes.ensures.1
+    c.if-table-n.false (bytes_fit a.cell.bits a.cell.block.now
+    c.requires.flag_bound.1) a.cell.block.now _ _ c.requires.block_value c.put_row.ensures c.put.ensures.1

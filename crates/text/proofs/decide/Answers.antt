@@ -1,95 +1,84 @@
 -- `text::decide` meets its contract: each `return` is the verdict of the tests that led there. Assumes nothing.
-use Prim.Native.Nat.{◌≤◌, ◌<◌, ◌+◌, ◌*◌, min}
+use Prim.Native.Nat.{◌≤◌, ◌+◌, ◌*◌, min}
 use mathlib.Core.Path.{◌≡◌, ap, sym, ◌∙◌}
 use native.Mathlib.Omega.{arith}
 use lib.ListN.{length}
-use Rattle.scheme.specs.Refusals.{NOROOM, BUDGET}
 use Rattle.scheme.specs.Memory.{cell_at}
-use Rattle.scheme.specs.Res.{refusal}
+use Rattle.scheme.specs.Res.{mapped}
 use Rattle.scheme.specs.Text.{height}
-use Rattle.laws.specs.Records.{CellsOk, sound-cells}
+use Rattle.laws.specs.Records.{Linked, CellsOk, sound-cells}
+use Rattle.depth.specs.Lent.{IsLent, is-lent}
 use Rattle.text.specs.Parts.{text_at, size_at}
-use Rattle.text.specs.Paper.{verdict_of}
-use Rattle.text.specs.declared.Verdict.TheVariants.{No}
-use Rattle.text.proofs.Printing.{no_store, no_cell, no-scratch, too_deep, over_budget, no_room, all-fits, text-bound}
+use Rattle.text.proofs.Printing.{too_deep, over_budget, no_room, all-fits, text-bound}
 use Rattle.text.proofs.decide.Goals as goal
+use Rattle.text.proofs.decide.Goals.{In_ok-check_lent, Else-path-gt-MAX_PATH, Else-limit-size, After-length_of-len}
 
-pub returns-then-not-is_sound : goal.returns-then-not-is_sound
-returns-then-not-is_sound c = ap verdict_of (sym (no_store _ _ _ _ _ _ _ (sym c.is_sound.ensures ∙ c.if-not-is_sound.true)))
+given : (c : In_ok-check_lent) → IsLent c.args.store.count c.args.store.table.now c.args.store.bytes.now c.args.n (length c.args.scratch.now)
+given c = is-lent _ _ _ _ _ (sym c.check_lent.ensures ∙ c.in_ok-check_lent.was)
 
-pub returns-then-count-n : goal.returns-then-count-n
-returns-then-count-n c = ap verdict_of (sym (no_cell _ _ _ _ _ _ _ (sym c.is_sound.ensures ∙ c.if-not-is_sound.false) c.if-count-n.true))
+cells : (c : In_ok-check_lent) → CellsOk c.args.store.table.now c.args.store.bytes.now (c.args.n + 1)
+cells c = let g = given c in λ i l. sound-cells _ _ _ g.whole i (omega arith)
 
-pub returns-then-scratch-count : goal.returns-then-scratch-count
-returns-then-scratch-count c =
-    ap verdict_of (sym (no-scratch _ _ _ _ _ _ _ (sym c.is_sound.ensures ∙ c.if-not-is_sound.false) c.if-count-n.false c.if-scratch-count.true))
+linked : (c : In_ok-check_lent) → Linked c.args.store.table.now (c.args.n + 1)
+linked c = λ i l. (cells c i l).ok
+
+low : (c : Else-path-gt-MAX_PATH) → height (cell_at c.args.store.table.now c.args.store.bytes.now) c.args.n ≤ 256
+low c = omega (arith, c.height_of-path.ensures c.args.store.bytes.now)
+
+few : (c : Else-limit-size) → size_at c.args.store.table.now c.args.store.bytes.now c.args.n ≤ min c.args.budget 65535
+few c = omega (arith, c.size_of-size.ensures c.args.store.bytes.now)
+
+-- the text is within the cap
+long : (c : After-length_of-len) → c.length_of-len.result ≡ length (text_at c.args.store.table.now c.args.store.bytes.now c.args.n)
+long c =
+    let a = c.args in
+    let s = cells (goal.at.After-length_of-len c).In_ok-check_lent in
+    let q = few (goal.at.After-length_of-len c).Else-limit-size in
+    let l : (a.n + 1) * 128 ≤ length a.store.bytes.now = omega (arith, (s a.n (omega arith)).bytes) in
+    omega (arith, c.length_of-len.ensures a.store.bytes.now l, text-bound a.store.table.now a.store.bytes.now a.n s)
 
 pub height_of-path-requires : goal.height_of-path-requires
 height_of-path-requires c =
-    let a = c.args in
-    let e = sym c.is_sound.ensures ∙ c.if-not-is_sound.false in
-    let h : a.n < a.count = c.if-count-n.false in
-    record { linked = λ i l. (sound-cells _ _ _ e i (omega arith)).ok; n_in_bounds = omega (arith, c.if-scratch-count.false) }
+    let d = (goal.at.height_of-path-requires c).In_ok-check_lent in
+    let g = given d in
+    record { linked = linked d; n_in_bounds = omega arith }
 
 pub returns-then-path-gt-MAX_PATH : goal.returns-then-path-gt-MAX_PATH
 returns-then-path-gt-MAX_PATH c =
-    let a = c.args in
-    let e = sym c.is_sound.ensures ∙ c.if-not-is_sound.false in
-    ap verdict_of (sym (too_deep _ _ _ _ _ _ _ e c.if-count-n.false c.if-scratch-count.false (omega (arith, c.height_of-path.ensures a.bytes.now))))
+    let g = given (goal.at.returns-then-path-gt-MAX_PATH c).In_ok-check_lent in
+    rw c.at.ensures (ap (mapped (λ _. tt)) (sym (too_deep _ _ _ _ _ _ _ g (omega (arith, c.height_of-path.ensures c.args.store.bytes.now)))))
 
 pub size_of-size-requires : goal.size_of-size-requires
 size_of-size-requires c =
-    let a = c.args in
-    let e = sym c.is_sound.ensures ∙ c.if-not-is_sound.false in
-    let h : a.n < a.count = c.if-count-n.false in
-    record { linked = λ i l. (sound-cells _ _ _ e i (omega arith)).ok; n_in_bounds = omega (arith, c.if-scratch-count.false, c.height_of-path.auto.scratch) }
+    let d = (goal.at.size_of-size-requires c).In_ok-check_lent in
+    let g = given d in
+    record { linked = linked d; n_in_bounds = omega (arith, c.height_of-path.auto.scratch) }
 
 pub returns-then-limit-size : goal.returns-then-limit-size
 returns-then-limit-size c =
-    let a = c.args in
-    let e = sym c.is_sound.ensures ∙ c.if-not-is_sound.false in
-    let D = a.bytes.now in
-    let m = c.allowed-limit.ensures in
-    let p : height (cell_at a.table.now D) a.n ≤ 256 = omega (arith, c.height_of-path.ensures D, c.if-path-gt-MAX_PATH.false) in
-    ap (λ x. No (refusal BUDGET x)) m
-    ∙ ap verdict_of (sym (over_budget _ _ _ _ _ _ _ e c.if-count-n.false c.if-scratch-count.false p (omega (arith, c.size_of-size.ensures D))))
+    let g = given (goal.at.returns-then-limit-size c).In_ok-check_lent in
+    let p = low (goal.at.returns-then-limit-size c).Else-path-gt-MAX_PATH in
+    rw (c.at-then-limit-size.ensures, c.min-limit.ensures)
+    (ap (mapped (λ _. tt)) (sym (over_budget _ _ _ _ _ _ _ g p (omega (arith, c.size_of-size.ensures c.args.store.bytes.now)))))
 
 pub length_of-len-requires : goal.length_of-len-requires
 length_of-len-requires c =
-    let a = c.args in
-    let e = sym c.is_sound.ensures ∙ c.if-not-is_sound.false in
-    let h : a.n < a.count = c.if-count-n.false in
-    record {
-      linked = λ i l. (sound-cells _ _ _ e i (omega arith)).ok;
-      n_in_bounds = omega (arith, c.if-scratch-count.false, c.height_of-path.auto.scratch, c.size_of-size.auto.scratch);
-    }
+    let d = (goal.at.length_of-len-requires c).In_ok-check_lent in
+    let g = given d in
+    record { linked = linked d; n_in_bounds = omega (arith, c.height_of-path.auto.scratch, c.size_of-size.auto.scratch) }
 
 pub returns-then-room-len : goal.returns-then-room-len
 returns-then-room-len c =
-    let a = c.args in
-    let e = sym c.is_sound.ensures ∙ c.if-not-is_sound.false in
-    let T = a.table.now in
-    let D = a.bytes.now in
-    let m = c.allowed-limit.ensures in
-    let h : a.n < a.count = c.if-count-n.false in
-    let p : height (cell_at T D) a.n ≤ 256 = omega (arith, c.height_of-path.ensures D, c.if-path-gt-MAX_PATH.false) in
-    let q : size_at T D a.n ≤ min a.budget 65535 = omega (arith, c.size_of-size.ensures D, m, c.if-limit-size.false) in
-    let cells : CellsOk T D (a.n + 1) = λ i l. sound-cells _ _ _ e i (omega arith) in
-    let l : (a.n + 1) * 128 ≤ length D = omega (arith, (cells a.n (omega arith)).bytes) in
-    let z : c.length_of-len.result ≡ length (text_at T D a.n) = omega (arith, c.length_of-len.ensures D l, text-bound T D a.n cells, q) in
-    ap (λ x. No (refusal NOROOM x)) z ∙ ap verdict_of (sym (no_room _ _ _ _ _ _ _ e h c.if-scratch-count.false p q (omega (arith, z, c.if-room-len.true))))
+    let g = given (goal.at.returns-then-room-len c).In_ok-check_lent in
+    let p = low (goal.at.returns-then-room-len c).Else-path-gt-MAX_PATH in
+    let q = few (goal.at.returns-then-room-len c).Else-limit-size in
+    let z = long (goal.at.returns-then-room-len c).After-length_of-len in
+    rw (c.at-then-room-len.ensures, z) (ap (mapped (λ _. tt)) (sym (no_room _ _ _ _ _ _ _ g p q (omega arith))))
 
 pub returns : goal.returns
 returns c =
-    let a = c.args in
-    let e = sym c.is_sound.ensures ∙ c.if-not-is_sound.false in
-    let T = a.table.now in
-    let D = a.bytes.now in
-    let m = c.allowed-limit.ensures in
-    let h : a.n < a.count = c.if-count-n.false in
-    let p : height (cell_at T D) a.n ≤ 256 = omega (arith, c.height_of-path.ensures D, c.if-path-gt-MAX_PATH.false) in
-    let q : size_at T D a.n ≤ min a.budget 65535 = omega (arith, c.size_of-size.ensures D, m, c.if-limit-size.false) in
-    let cells : CellsOk T D (a.n + 1) = λ i l. sound-cells _ _ _ e i (omega arith) in
-    let l : (a.n + 1) * 128 ≤ length D = omega (arith, (cells a.n (omega arith)).bytes) in
-    let z : c.length_of-len.result ≡ length (text_at T D a.n) = omega (arith, c.length_of-len.ensures D l, text-bound T D a.n cells, q) in
-    ap verdict_of (sym (all-fits _ _ _ _ _ _ _ e h c.if-scratch-count.false p q (omega (arith, z, c.if-room-len.false))))
+    let g = given (goal.at.returns c).In_ok-check_lent in
+    let p = low (goal.at.returns c).Else-path-gt-MAX_PATH in
+    let q = few (goal.at.returns c).Else-limit-size in
+    let z = long (goal.at.returns c).After-length_of-len in
+    ap (mapped (λ _. tt)) (sym (all-fits _ _ _ _ _ _ _ g p q (omega arith)))

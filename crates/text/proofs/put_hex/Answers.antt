@@ -19,12 +19,9 @@ turn src out₀ out at i to x y h q e ex ey =
     puts_then out₀ out (set (set out to x) (to + 1) y) at to (hex (take i src)) (x ∷ y ∷ []) e l (puts_2 out to x y)
     ∙ rw (add-one, take-suc src i 0 h, hex-append (take i src) (get_or src i 0 ∷ []), ex, ey)
 
-pub loop-i-init : goal.loop-i-init
+pub loop-b-init : goal.loop-b-init
 unfolding hex
-loop-i-init c = (omega arith, omega arith, sym (puts-nil _ _), refl)
-
-pub hex_digit-requires : goal.hex_digit-requires
-hex_digit-requires c = omega (arith, c.type_inv.src c.loop-i.i)
+loop-b-init c = (omega arith, sym (puts-nil _ _), refl)
 
 pub bounds-out-to : goal.bounds-out-to
 bounds-out-to c = omega (arith, hex-length c.args.src.now)
@@ -32,28 +29,24 @@ bounds-out-to c = omega (arith, hex-length c.args.src.now)
 pub overflow_add-out : goal.overflow_add-out
 overflow_add-out c = omega (arith, hex-length c.args.src.now, c.well_formed)
 
-pub bounds-out-to-in-loop-i : goal.bounds-out-to-in-loop-i
-bounds-out-to-in-loop-i c = simp length-set (omega (arith, hex-length c.args.src.now))
+pub bounds-out-to-in-loop-b : goal.bounds-out-to-in-loop-b
+bounds-out-to-in-loop-b c = simp length-set (omega (arith, hex-length c.args.src.now))
 
 pub overflow_add-to : goal.overflow_add-to
 overflow_add-to c = omega (arith, hex-length c.args.src.now, c.well_formed)
 
-pub loop-i-preserved : goal.loop-i-preserved
-loop-i-preserved c =
+pub loop-b-preserved : goal.loop-b-preserved
+loop-b-preserved c =
     let a = c.args in
-    let l = c.loop-i in (
+    let l = c.loop-b in (
       omega arith,
-      omega arith,
-      turn a.src.now a.out.now l.out a.at l.i l.to c.hex_digit.result c.hex_digit-in-loop-i.result (omega arith) (omega arith)
-          l.invariant.2 c.hex_digit.ensures c.hex_digit-in-loop-i.ensures,
-      simp length-set l.invariant.3,
+      turn a.src.now a.out.now l.out a.at l.b-index l.to c.hex_digit.result c.hex_digit-in-loop-b.result (omega arith) (omega arith)
+          l.invariant.1 c.hex_digit.ensures c.hex_digit-in-loop-b.ensures,
+      simp length-set l.invariant.2,
     )
-
-pub shape_of-out : goal.shape_of-out
-shape_of-out c = c.loop-i.invariant.3
 
 pub returns : goal.returns
 returns c =
     let a = c.args in
-    let l = c.loop-i in
-    record { next = omega (arith, hex-length a.src.now); put = l.invariant.2 ∙ rw (take_all l.i a.src.now (omega arith)) refl }
+    let l = c.loop-b in
+    record { next = omega (arith, hex-length a.src.now); put = l.invariant.1 ∙ rw (take_all l.b-index a.src.now (omega arith)) refl }

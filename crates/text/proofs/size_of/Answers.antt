@@ -1,11 +1,16 @@
 -- `text::size_of` meets its contract. Assumes nothing.
+use Rattle.std.proofs.Common.{rules}
 use Prim.Native.Nat.{◌+◌}
+use native.Mathlib.Omega.{arith}
 use lib.ListN.{drop}
 use Rattle.scheme.specs.Text.{size_step}
 use Rattle.laws.specs.Passes.{cut-last, caps-size}
+use Rattle.depth.specs.Pass.{turns-values}
 use Rattle.text.proofs.size_of.Goals as goal
 
 pub returns : goal.returns
 returns c =
     let a = c.args in
-    λ d. cut-last size_step a.cap (caps-size a.cap) a.table.now d a.n c.all_sizes.new.scratch (drop (a.n + 1) a.scratch.now) (c.all_sizes.ensures d)
+    λ d.
+    cut-last size_step a.cap (caps-size a.cap) a.table.now d a.n _ (drop (a.n + 1) a.scratch.now)
+    (turns-values size_step a.cap (caps-size a.cap) a.table.now d _ (a.n + 1) _ _ c.requires.linked (omega arith) (λ v i r l p. search rules) c.pass.ensures)

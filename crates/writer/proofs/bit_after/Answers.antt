@@ -1,6 +1,6 @@
--- `writer::bit_after` meets its contract: the table has the powers. Assumes nothing.
-use Rattle.writer.proofs.Numbers.{bit_table}
+-- `writer::bit_after` meets its contract. Assumes nothing.
+use Rattle.writer.proofs.Numbers.{bit_behind}
 use Rattle.writer.proofs.bit_after.Goals as goal
 
 pub returns : goal.returns
-returns c = bit_table _ c.requires
+returns c = bit_behind c.args.r c.requires

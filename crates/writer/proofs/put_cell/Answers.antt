@@ -16,28 +16,28 @@ use Rattle.writer.proofs.put_cell.Goals as goal
 use Rattle.writer.proofs.put_cell.Goals.{After-put_byte-a, After-put_byte-b, After-put_data-d, Start}
 
 abbrev whole₀ : Start → List ℕ
-whole₀ s = cell_bytes s.args.size (placed_cell s.args.table.now s.args.bytes.now s.args.scratch.now s.args.n s.args.x)
+whole₀ s = cell_bytes s.args.shape.size (placed_cell s.args.cells.table.now s.args.cells.bytes.now s.args.scratch.now s.args.cells.count s.args.x)
 
 abbrev Left : Start → List ℕ → ℕ → List ℕ → Type 0
 Left s o to rest = Next (puts s.args.out.now s.args.at (whole₀ s)) (s.args.at + length (whole₀ s)) o to rest
 
 abbrev data₀ : Start → List ℕ
-data₀ s = padded (cell_at s.args.table.now s.args.bytes.now s.args.x)
+data₀ s = padded (cell_at s.args.cells.table.now s.args.cells.bytes.now s.args.x)
 
 abbrev refs₀ : Start → List ℕ
-refs₀ s = all_be s.args.size (places_of s.args.scratch.now s.args.n (refs_at s.args.table.now s.args.x))
+refs₀ s = all_be s.args.shape.size (places_of s.args.scratch.now s.args.cells.count (refs_at s.args.cells.table.now s.args.x))
 
 -- the two descriptors
 abbrev d1 : Start → ℕ
-d1 s = get_or s.args.table.now (s.args.x * 7 + 2) 0 + 8 * get_or s.args.table.now (s.args.x * 7) 0 + 32 * 0
+d1 s = get_or s.args.cells.table.now (s.args.x * 7 + 2) 0 + 8 * get_or s.args.cells.table.now (s.args.x * 7) 0 + 32 * 0
 
 abbrev d2 : Start → ℕ
-d2 s = bits_descriptor (get_or s.args.table.now (s.args.x * 7 + 1) 0)
+d2 s = bits_descriptor (get_or s.args.cells.table.now (s.args.x * 7 + 1) 0)
 
 left₀ : (s : Start) → Left s s.args.out.now s.args.at ((d1 s ∷ []) ++ ((d2 s ∷ []) ++ (data₀ s ++ (refs₀ s ++ []))))
 left₀ s =
     rw (append-nil (refs₀ s))
-    (subst (λ (l : List ℕ). Left s s.args.out.now s.args.at l) (cell_parts s.args.table.now s.args.bytes.now s.args.scratch.now s.args.n s.args.size s.args.x s.requires.cell_ok.ok)
+    (subst (λ (l : List ℕ). Left s s.args.out.now s.args.at l) (cell_parts s.args.cells.table.now s.args.cells.bytes.now s.args.scratch.now s.args.cells.count s.args.shape.size s.args.x s.requires.cell_ok.ok)
     (next_start s.args.out.now s.args.at (whole₀ s) s.requires.x_in_bounds))
 
 abbrev start₁ : After-put_byte-a → Start
@@ -45,7 +45,7 @@ start₁ c = (goal.at.After-put_byte-a c).Start
 
 left₁ : (c : After-put_byte-a) → Left (start₁ c) c.put_byte-a.new.out c.put_byte-a.result ((d2 (start₁ c) ∷ []) ++ (data₀ (start₁ c) ++ (refs₀ (start₁ c) ++ [])))
 left₁ c =
-    let f = c.field-flag.ensures ∙ ap (λ (i : ℕ). get_or (start₁ c).args.table.now i 0) (add-zero ((start₁ c).args.x * 7)) in
+    let f = c.field-flag.ensures ∙ ap (λ (i : ℕ). get_or (start₁ c).args.cells.table.now i 0) (add-zero ((start₁ c).args.x * 7)) in
     let e : c.refs_descriptor.result ≡ d1 (start₁ c) = c.refs_descriptor.ensures ∙ ap₂ (λ (r f : ℕ). r + 8 * f + 32 * 0) c.field-k.ensures f in
     next-turn _ _ (d1 (start₁ c) ∷ []) _ (left₀ (start₁ c)) c.put_byte-a.new.out c.put_byte-a.result (c.put_byte-a.ensures.1 ∙ ap (λ (b : ℕ). puts (start₁ c).args.out.now (start₁ c).args.at (b ∷ [])) e) c.put_byte-a.ensures.0
 
@@ -67,7 +67,7 @@ left₃ c = next-turn _ _ (data₀ (start₃ c)) _ (left₂ (goal.at.After-put_d
 pub refs_descriptor-requires : goal.refs_descriptor-requires
 refs_descriptor-requires c =
     let a = c.args in
-    let f = c.field-flag.ensures ∙ ap (λ (k : ℕ). get_or a.table.now k 0) (add-zero (a.x * 7)) in
+    let f = c.field-flag.ensures ∙ ap (λ (k : ℕ). get_or a.cells.table.now k 0) (add-zero (a.x * 7)) in
     let k = c.field-k.ensures in
     record { refs_bound = omega (arith, c.requires.cell_ok.ok.few); exotic_bound = omega (arith, c.requires.cell_ok.ok.flag); level_bound = omega arith }
 
@@ -87,7 +87,7 @@ put_data-d-requires c =
 
 pub put_refs-requires : goal.put_refs-requires
 put_refs-requires c =
-    record { record_ok = c.requires.cell_ok.ok; x_lt_n = omega arith; n_bound = omega arith; n_in_bounds = omega arith; x_in_bounds = next-room _ _ (refs₀ (goal.at.put_refs-requires c).Start) [] (left₃ (goal.at.put_refs-requires c).After-put_data-d) }
+    record { record_ok = c.requires.cell_ok.ok; x_lt_cells = omega arith; shape_in_bounds = omega arith; x_in_bounds = next-room _ _ (refs₀ (goal.at.put_refs-requires c).Start) [] (left₃ (goal.at.put_refs-requires c).After-put_data-d) }
 
 pub returns : goal.returns
 returns c =

@@ -12,69 +12,73 @@ use Rattle.writer.proofs.Whole.{refused-cell, refused-scratch, refused-room, acc
 use Rattle.writer.proofs.write.Goals as goal
 use Rattle.writer.proofs.write.Goals.{Start, After-needed-long}
 
-few : (s : Start) → s.args.n ≤ 4096
-few s = sound-few s.args.n s.args.table.now s.args.bytes.now s.requires
+few : (s : Start) → s.args.cells.count ≤ 4096
+few s = sound-few s.args.cells.count s.args.cells.table.now s.args.cells.bytes.now s.requires
 
 pub returns-then-n-root : goal.returns-then-n-root
 returns-then-n-root c =
     let a = c.args in
-    refused-cell a.has_idx a.has_crc32c a.n a.table.now a.bytes.now a.root a.scratch.now a.out.now c.requires c.if-n-root.true
+    rw c.at.ensures (refused-cell a.args.has_idx a.args.has_crc32c a.cells.count a.cells.table.now a.cells.bytes.now a.root a.scratch.now a.out.now c.requires c.if-n-root.true)
 
 pub overflow_mul-n : goal.overflow_mul-n
 overflow_mul-n c = omega (arith, few (goal.at.overflow_mul-n c).Start)
 
-pub overflow_mul-result : goal.overflow_mul-result
-overflow_mul-result c = omega (arith, few (goal.at.overflow_mul-result c).Start)
+pub overflow_mul-n-then-scratch-n : goal.overflow_mul-n-then-scratch-n
+overflow_mul-n-then-scratch-n c = omega (arith, few (goal.at.overflow_mul-n-then-scratch-n c).Start)
 
 pub returns-then-scratch-n : goal.returns-then-scratch-n
 returns-then-scratch-n c =
     let a = c.args in
-    refused-scratch a.has_idx a.has_crc32c a.n a.table.now a.bytes.now a.root a.scratch.now a.out.now c.requires c.if-n-root.false c.if-scratch-n.true
+    rw c.at-then-scratch-n.ensures (refused-scratch a.args.has_idx a.args.has_crc32c a.cells.count a.cells.table.now a.cells.bytes.now a.root a.scratch.now a.out.now c.requires c.if-n-root.false c.if-scratch-n.true)
 
-pub order-m-requires : goal.order-m-requires
-order-m-requires c =
-    let a = c.args in
-    record { linked = λ i l. (sound-cells a.n a.table.now a.bytes.now c.requires i l).ok; root_lt_n = c.if-n-root.false; n_bound = few (goal.at.order-m-requires c).Start; n_in_bounds = c.if-scratch-n.false }
+pub order-m-requires-clause-linked : goal.order-m-requires-clause-linked
+order-m-requires-clause-linked c = λ i l. (sound-cells c.args.cells.count c.args.cells.table.now c.args.cells.bytes.now c.requires i l).ok
+
+pub order-m-requires-clause-n_bound : goal.order-m-requires-clause-n_bound
+order-m-requires-clause-n_bound c = few (goal.at.order-m-requires-clause-n_bound c).Start
 
 pub width-size-requires : goal.width-size-requires
 width-size-requires c = omega (arith, few (goal.at.width-size-requires c).Start, c.order-m.ensures.within)
 
-pub total_size-total-requires : goal.total_size-total-requires
-total_size-total-requires c =
-    let a = c.args in
-    let o = c.order-m in
-    record { linked = λ i l. (sound-cells a.n a.table.now a.bytes.now c.requires i l).ok; m_le_n = o.ensures.within; n_bound = few (goal.at.total_size-total-requires c).Start; n_in_bounds = omega (arith, o.auto.scratch); size_bound = c.width-size.ensures.1; by_index = o.ensures.below }
+pub total_size-total-requires-clause-linked : goal.total_size-total-requires-clause-linked
+total_size-total-requires-clause-linked c = λ i l. (sound-cells c.args.cells.count c.args.cells.table.now c.args.cells.bytes.now c.requires i l).ok
+
+pub total_size-total-requires-clause-m_bound : goal.total_size-total-requires-clause-m_bound
+total_size-total-requires-clause-m_bound c = omega (arith, few (goal.at.total_size-total-requires-clause-m_bound c).Start, c.order-m.ensures.within)
 
 pub width-off-requires : goal.width-off-requires
 width-off-requires c = omega (arith, few (goal.at.width-off-requires c).Start, c.order-m.ensures.within, c.total_size-total.ensures.1)
+
+pub invariant_of-shape : goal.invariant_of-shape
+invariant_of-shape c = record { few = omega (arith, few (goal.at.invariant_of-shape c).Start, c.order-m.ensures.within); size_bound = c.width-size.ensures.1; off_bound = c.width-off.ensures.1 }
 
 pub needed-long-requires : goal.needed-long-requires
 needed-long-requires c =
     let m = c.order-m.ensures.within in
     let t = c.total_size-total.ensures.1 in
-    record { m_bound = omega (arith, few (goal.at.needed-long-requires c).Start); size_bound = c.width-size.ensures.1; off_bound = c.width-off.ensures.1; total_bound = omega (arith, few (goal.at.needed-long-requires c).Start) }
+    omega (arith, few (goal.at.needed-long-requires c).Start)
 
 -- the bag that is to be written, and its length
 module _ (c : After-needed-long) where
   abbrev bag : List ℕ
   bag =
       let a = c.args in
-      sealed_of a.has_crc32c (body_of a.has_idx a.has_crc32c a.table.now a.bytes.now c.order-m.new.scratch a.n c.order-m.result c.width-size.result c.width-off.result)
+      sealed_of a.args.has_crc32c (body_of a.args.has_idx a.args.has_crc32c a.cells.table.now a.cells.bytes.now c.order-m.new.scratch a.cells.count c.order-m.result c.width-size.result c.width-off.result)
 
-  cells : CellsOk c.args.table.now c.args.bytes.now c.args.n
-  cells = sound-cells c.args.n c.args.table.now c.args.bytes.now c.requires
+  cells : CellsOk c.args.cells.table.now c.args.cells.bytes.now c.args.cells.count
+  cells = sound-cells c.args.cells.count c.args.cells.table.now c.args.cells.bytes.now c.requires
 
-  room : 2 * c.args.n ≤ length c.order-m.new.scratch
+  room : 2 * c.args.cells.count ≤ length c.order-m.new.scratch
   room = omega (arith, c.order-m.auto.scratch, c.if-scratch-n.false)
 
-  bag-right : bag ≡ bag_of c.args.has_idx c.args.has_crc32c (cells_of c.args.n c.args.table.now c.args.bytes.now) c.args.root
+  bag-right : bag ≡ bag_of c.args.args.has_idx c.args.args.has_crc32c (cells_of c.args.cells.count c.args.cells.table.now c.args.cells.bytes.now) c.args.root
   bag-right =
       let a = c.args in
       let o = c.order-m in
       let z = c.width-size in
       let t = c.total_size-total in
       let w = c.width-off in
-      bag-is a.table.now a.bytes.now a.n a.root cells o.new.scratch o.result o.ensures room a.has_idx a.has_crc32c z.result t.result w.result z.ensures.0 t.ensures.0 w.ensures.0
+      bag-is a.cells.table.now a.cells.bytes.now a.cells.count a.root cells o.new.scratch o.result o.ensures room a.args.has_idx a.args.has_crc32c z.result t.result w.result z.ensures.0 t.ensures.0 w.ensures.0
 
   long-right : c.needed-long.result ≡ length bag
   long-right =
@@ -84,28 +88,22 @@ module _ (c : After-needed-long) where
       let t = c.total_size-total in
       let w = c.width-off in
       c.needed-long.ensures
-      ∙ needed_is a.table.now a.bytes.now a.n a.root cells o.new.scratch o.result o.ensures room a.has_idx a.has_crc32c z.result t.result w.result z.ensures.0 t.ensures.0 w.ensures.0
+      ∙ needed_is a.cells.table.now a.cells.bytes.now a.cells.count a.root cells o.new.scratch o.result o.ensures room a.args.has_idx a.args.has_crc32c z.result t.result w.result z.ensures.0 t.ensures.0 w.ensures.0
 
 pub returns-then-out-long : goal.returns-then-out-long
 returns-then-out-long c =
     let a = c.args in
     let n = (goal.at.returns-then-out-long c).After-needed-long in
-    refused-room a.has_idx a.has_crc32c a.n a.table.now a.bytes.now a.root a.scratch.now a.out.now c.requires c.if-n-root.false c.if-scratch-n.false (bag n) (bag-right n) c.needed-long.result (long-right n) c.if-out-long.true
+    rw c.at-then-out-long.ensures (refused-room a.args.has_idx a.args.has_crc32c a.cells.count a.cells.table.now a.cells.bytes.now a.root a.scratch.now a.out.now c.requires c.if-n-root.false c.if-scratch-n.false (bag n) (bag-right n) c.needed-long.result (long-right n) c.if-out-long.true)
 
-pub put_bag-requires : goal.put_bag-requires
-put_bag-requires c =
-    let n = (goal.at.put_bag-requires c).After-needed-long in
-    let o = c.order-m in
-    record {
-      cells_ok = cells n;
-      m_le_n = (o.ensures.within, few (goal.at.put_bag-requires c).Start, omega (arith, o.auto.scratch, c.if-scratch-n.false), c.width-size.ensures.1, c.width-off.ensures.1);
-      by_index = o.ensures.below;
-      total_value = c.total_size-total.ensures.0;
-      off_in_bounds = omega (arith, long-right n, c.if-out-long.false);
-    }
+pub put_bag-requires-clause-cells_ok : goal.put_bag-requires-clause-cells_ok
+put_bag-requires-clause-cells_ok c = cells (goal.at.put_bag-requires-clause-cells_ok c).After-needed-long
+
+pub put_bag-requires-clause-out_in_bounds : goal.put_bag-requires-clause-out_in_bounds
+put_bag-requires-clause-out_in_bounds c = omega (arith, long-right (goal.at.put_bag-requires-clause-out_in_bounds c).After-needed-long, c.if-out-long.false)
 
 pub returns : goal.returns
 returns c =
     let a = c.args in
     let n = (goal.at.returns c).After-needed-long in
-    accepted a.has_idx a.has_crc32c a.n a.table.now a.bytes.now a.root a.scratch.now a.out.now c.requires c.if-n-root.false c.if-scratch-n.false (bag n) (bag-right n) c.needed-long.result (long-right n) c.if-out-long.false _ c.put_bag.ensures
+    accepted a.args.has_idx a.args.has_crc32c a.cells.count a.cells.table.now a.cells.bytes.now a.root a.scratch.now a.out.now c.requires c.if-n-root.false c.if-scratch-n.false (bag n) (bag-right n) c.needed-long.result (long-right n) c.if-out-long.false _ c.put_bag.ensures
