@@ -1,10 +1,11 @@
 -- The links of a bag, one reference, one root and one cell at a time. Assumes nothing.
-use Rattle.std.specs.Prelude.{◌≡◌, refl, ℕ, suc, ◌+◌, ◌<◌, Bool, not, ◌||◌, take, get_or, leb, ltb, Ok, Err}
+use Rattle.std.specs.Prelude.{◌≡◌, refl, ℕ, suc, ◌+◌, ◌≤◌, ◌<◌, Bool, not, ◌||◌, take, get_or, leb, ltb, Ok, Err}
 use Rattle.std.proofs.Math.Path.{ap}
-use Rattle.std.proofs.Common.{◌∙◌, add-one, add-zero, zero-add, arith, take-suc}
+use Rattle.std.proofs.Common.{sym, ◌∙◌, add-one, add-zero, zero-add, arith, take-suc}
 use mathlib.Core.List.{List, [], ◌∷◌, ◌++◌}
 use Rattle.std.proofs.Math.ListN.{length}
 use Rattle.std.proofs.Math.Seq.{length-take-le}
+use borrow.Author.Tests.{lt-ltb, le-ltb}
 use Rattle.scheme.specs.Refusals.{BACK, RANGE, ROOT, EXTRA}
 use Rattle.scheme.specs.Res.{Res, then, check, refusal}
 use Rattle.scheme.specs.declared.Refusal.{Refusal}
@@ -17,6 +18,42 @@ use Rattle.bag.specs.Scan.{cells-append, cells-length}
 -- one reference of the cell at place i of n: BACK, RANGE
 unfoldable pub link_ok : ℕ → ℕ → ℕ → Res (Unit {0})
 link_ok i n r = then (check (ltb i r) (refusal BACK i)) λ _. check (ltb r n) (refusal RANGE i)
+
+then_assoc : (x y z : Res (Unit {0})) → then (then x λ _. y) (λ _. z) ≡ then x λ _. then y λ _. z
+then_assoc (Err r) y z = refl
+then_assoc (Ok u) y z = refl
+
+module _ (i n r : ℕ) where
+  pub link-back : r ≤ i → link_ok i n r ≡ Err (refusal BACK i)
+  unfolding link_ok
+  link-back h = rw (le-ltb i r h)
+
+  pub link-range : i < r → n ≤ r → link_ok i n r ≡ Err (refusal RANGE i)
+  unfolding link_ok
+  link-range h g = rw (lt-ltb i r h, le-ltb r n g)
+
+  pub link-ok : i < r → r < n → link_ok i n r ≡ Ok tt
+  unfolding link_ok
+  link-ok h g = rw (lt-ltb i r h, lt-ltb r n g)
+
+refs-cons : (i n r : ℕ) (rs : List ℕ) → refs_ok i n (r ∷ rs) ≡ then (link_ok i n r) λ _. refs_ok i n rs
+unfolding link_ok
+refs-cons i n r rs = sym (then_assoc (check (ltb i r) (refusal BACK i)) (check (ltb r n) (refusal RANGE i)) (refs_ok i n rs))
+
+-- the references of k bytes from p on
+module _ (b : List ℕ) (size i n k p : ℕ) where
+  pub refs-bad : (r : Refusal) → link_ok i n (number_at b size p) ≡ Err r → refs_ok i n (numbers_at b size (suc k) p) ≡ Err r
+  refs-bad r e = refs-cons i n (number_at b size p) (numbers_at b size k (p + size)) ∙ rw e
+
+  pub refs-next : link_ok i n (number_at b size p) ≡ Ok tt → refs_ok i n (numbers_at b size (suc k) p) ≡ refs_ok i n (numbers_at b size k (p + size))
+  refs-next e = refs-cons i n (number_at b size p) (numbers_at b size k (p + size)) ∙ rw e
+
+  -- the roots, from place i of the list on
+  pub roots-bad : n ≤ number_at b size p → roots_ok i n (numbers_at b size (suc k) p) ≡ Err (refusal ROOT i)
+  roots-bad h = rw (le-ltb (number_at b size p) n h)
+
+  pub roots-next : number_at b size p < n → roots_ok i n (numbers_at b size (suc k) p) ≡ roots_ok (suc i) n (numbers_at b size k (p + size))
+  roots-next h = rw (lt-ltb (number_at b size p) n h)
 
 -- root k of the list, r, of n cells: ROOT
 abbrev pub root_ok : ℕ → ℕ → ℕ → Res (Unit {0})
@@ -60,10 +97,6 @@ roots-each n k (r ∷ rs) = ap (λ (x : Res (Unit {0})). then (check (ltb r n) (
 then_unit : (x : Res (Unit {0})) → x ≡ then x λ _. Ok tt
 then_unit (Err r) = refl
 then_unit (Ok u) = refl
-
-then_assoc : (x y z : Res (Unit {0})) → then (then x λ _. y) (λ _. z) ≡ then x λ _. then y λ _. z
-then_assoc (Err r) y z = refl
-then_assoc (Ok u) y z = refl
 
 -- the last cell is looked at first
 pub links-snoc : (i n : ℕ) (cs : List Cell) (c : Cell) → links i n (cs ++ c ∷ []) ≡ then (refs_ok (i + length cs) n c.refs) λ _. links i n cs

@@ -20,8 +20,34 @@ use Rattle.header.specs.declared.Header.{Header}
 use Rattle.bag.specs.Places.{cells_at, places, scanned}
 use Rattle.bag.specs.Scan.{Seen, scan_seen, marks-front}
 use Rattle.bag.specs.Links.{extra_ok}
-use Rattle.bag.specs.Paper.{after_scan, AreCells, marks, opening_cells, opening, marked, Opens, bag_of, Kept}
+use Rattle.bag.specs.Paper.{after_scan, AreCells, marks, opening_cells, OpensCells, opening, marked, Opens, bag_of, Kept}
 use Rattle.bag.specs.declared.OpenBag.{OpenBag}
+
+-- the ways out
+module _ (b : List ℕ) (whole : Bool) (h : Header) (m : List ℕ) (p : ℕ) where
+  pub after_crc : (r : Refusal) → checksum h.checked b p ≡ Err r → Err r ≡ after_scan b whole h m p
+  unfolding after_scan
+  after_crc r e = rw e
+
+  module _ (used : ℕ) (e₁ : checksum h.checked b p ≡ Ok used) where
+    pub after_extra : (r : Refusal) → extra_ok whole used (length b) ≡ Err r → Err r ≡ after_scan b whole h m p
+    unfolding after_scan
+    after_extra r e = rw (e₁, e)
+
+    module _ (e₂ : extra_ok whole used (length b) ≡ Ok tt) where
+      pub after-links : (r : Refusal) → links 0 h.cells (cells_at b h.size (take h.cells m)) ≡ Err r → Err r ≡ after_scan b whole h m p
+      unfolding after_scan
+      after-links r e = rw (e₁, e₂, e)
+
+      module _ (e₃ : links 0 h.cells (cells_at b h.size (take h.cells m)) ≡ Ok tt) where
+        pub after-roots : (r : Refusal) → roots_ok 0 h.cells (numbers_at b h.size h.roots h.list) ≡ Err r → Err r ≡ after_scan b whole h m p
+        unfolding after_scan
+        after-roots r e = rw (e₁, e₂, e₃, e)
+
+        pub after-all : roots_ok 0 h.cells (numbers_at b h.size h.roots h.list) ≡ Ok tt
+            → Ok (record { size = h.size; cells = h.cells; roots = h.roots; list = h.list; used = used }) ≡ after_scan b whole h m p
+        unfolding after_scan
+        after-all e = rw (e₁, e₂, e₃, e)
 
 -- a scan that came to its end read the cells
 scanned-inv : (b : List ℕ) (size n p e : ℕ) → scanned b size n p ≡ Ok e → (cs : Past (List Cell)) × (raw_cells b size n p ≡ Ok cs) × (cs.next ≡ e)
@@ -44,6 +70,16 @@ module _ (b : List ℕ) (size n p : ℕ) (s m : List ℕ) (is : m ≡ puts s 0 (
       let c = scanned-inv b size n p e x in
       let S = marks-seen c.0 c.1 in
       λ k h. rw (← get_or-take n m k 0 h) (S.whole k h)
+
+-- the two ends of a scan
+module _ (b : List ℕ) (whole : Bool) (h : Header) (s m : List ℕ) (is : m ≡ puts s 0 (places b h.size h.cells h.first)) where
+  pub scan_stops : (r : Refusal) → scanned b h.size h.cells h.first ≡ Err r → OpensCells b whole h s (Err r) m
+  unfolding opening_cells marks
+  scan_stops r e = record { answer = rw e; scratch = is }
+
+  pub scan_ends : (p : ℕ) (r : Res OpenBag) → scanned b h.size h.cells h.first ≡ Ok p → r ≡ after_scan b whole h m p → OpensCells b whole h s r m
+  unfolding opening_cells marks
+  scan_ends p r e a = record { answer = rw e (rw is at a); scratch = is }
 
 -- a step, and then an answer in other words
 mapped-then : {A B C : Type 0} (f : B → C) (x : Res A) (g : A → Res B) → mapped f (then x g) ≡ then x λ a. mapped f (g a)
@@ -86,6 +122,16 @@ module _ (b : List ℕ) (whole : Bool) (h : Header) (m : List ℕ) where
       then_use (links 0 h.cells (cells_at b h.size (take h.cells m))) _ _ e₂ λ u₃ x₃ e₃.
       then_use (roots_ok 0 h.cells (numbers_at b h.size h.roots h.list)) _ _ e₃ λ u₄ x₄ e₄.
       (used, cc)
+
+-- the two ways out of the header
+module _ (b : List ℕ) (whole : Bool) (rooms : ℕ) (s : List ℕ) where
+  pub no_header : (r : Refusal) → header_at b (length s) rooms ≡ Err r → Opens b whole rooms s (Err r) s
+  unfolding opening marked
+  no_header r e = record { answer = rw e; scratch = rw e }
+
+  pub opens : (h : Header) → header_at b (length s) rooms ≡ Ok h → (r : Res OpenBag) (m : List ℕ) → OpensCells b whole h s r m → Opens b whole rooms s r m
+  unfolding opening marked
+  opens h e r m O = record { answer = rw e O.answer; scratch = rw e O.scratch }
 
 -- what an answer and a scratch that keep the promise come to
 module _ (b : List ℕ) (whole : Bool) (rooms : ℕ) (s : List ℕ) (r : Res OpenBag) (m : List ℕ) (O : Opens b whole rooms s r m) where

@@ -1,8 +1,8 @@
 -- The header by place is what the definitions read before the cells. Assumes nothing.
-use Rattle.std.specs.Prelude.{ℕ, ◌+◌, ◌*◌, ◌≤◌, ◌≡◌, Bool, cond, not, ◌||◌, List, length, leb, Ok, Err}
+use Rattle.std.specs.Prelude.{ℕ, ◌+◌, ◌*◌, ◌≤◌, ◌<◌, ◌≡◌, Bool, cond, not, ◌||◌, List, length, leb, Ok, Err}
 use Rattle.std.proofs.Math.Path.{refl}
 use Rattle.std.proofs.Common.{◌∙◌, arith, lit≤}
-use borrow.Author.Tests.{leb-true}
+use borrow.Author.Tests.{leb-true, lt-leb}
 use Rattle.laws.specs.Accept.{check_inv}
 use Rattle.scheme.specs.Refusals.{SIZE, OFFSET, COUNTS, CELLS, SCRATCH, ROOTROOM, EXTRA}
 use Rattle.scheme.specs.Res.{Res, then, check, refusal}
@@ -18,6 +18,12 @@ use Rattle.header.specs.declared.Header.{Header}
 -- the roots of a header in the bytes b, as bag places
 abbrev pub roots_in : List ℕ → Header → List ℕ
 roots_in b m = numbers_at b m.size m.roots m.list
+
+-- roots and absent cells, taken together exactly, are more than the cells
+pub too_many : (cells roots absent next scratch room : ℕ) → cells < roots + absent
+    → Err (refusal COUNTS 6) ≡ checked_counts cells roots absent next scratch room
+unfolding checked_counts
+too_many cells roots absent next scratch room h = rw (lt-leb (roots + absent) cells h)
 
 -- the counts at their places
 counts-are : (b : List ℕ) (size scratch room : ℕ) → size ≤ 4 → counts_at b size scratch room ≡

@@ -1,5 +1,5 @@
 -- Two outcomes that meet a function's contract are equal: the answer, and what the lent slice holds afterwards. Assumes nothing.
-use Rattle.std.specs.Prelude.{◌≡◌, ℕ, ◌+◌, ◌*◌, ◌/◌, List, [], ◌∷◌, length, take, drop, get_or}
+use Rattle.std.specs.Prelude.{◌≡◌, ℕ, ◌+◌, ◌*◌, ◌/◌, List, [], ◌∷◌, length, take, drop, replicate, get_or}
 use Rattle.laws.specs.OneAnswer.{one-content, one-pair}
 use Rattle.laws.specs.Puts.{puts}
 
@@ -11,6 +11,10 @@ one-room t r s p q = one-content p q
 
 pub one_data : (d : List ℕ) (i : ℕ) (x y : List ℕ) → x ≡ take 128 (drop (i * 128) d) → y ≡ take 128 (drop (i * 128) d) → x ≡ y
 one_data d i x y p q = one-content p q
+
+-- all 0, as `fill(0)` leaves it
+pub one_zeroing : (xs ys zs : List ℕ) → ys ≡ replicate (length xs) 0 → zs ≡ replicate (length xs) 0 → ys ≡ zs
+one_zeroing xs ys zs p q = one-content p q
 
 pub one_entry : (xs : List ℕ) (i r s : ℕ) → r ≡ get_or xs i 0 → s ≡ get_or xs i 0 → r ≡ s
 one_entry xs i r s p q = one-content p q

@@ -82,7 +82,10 @@ pub fn put<T: Copy>(src: &[T], out: &mut [T], at: usize) -> usize
     requires { at + length src.now ≤ length out.old }
     ensures { (result ≡ at + length src.now) × (out.new ≡ puts out.old at src.now) }
 {
-    let next = at + src.len();
-    out[at..next].copy_from_slice(src);
-    next
+    let mut to = at;
+    for x in src {
+        out[to] = *x;
+        to += 1;
+    }
+    to
 }

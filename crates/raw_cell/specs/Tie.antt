@@ -5,11 +5,12 @@ use native.Mathlib.Omega.{arith}
 use borrow.Author.Tests.{eqb-true}
 use Rattle.scheme.specs.Refusals.{REFS}
 use Rattle.scheme.specs.Res.{Res, then, check, refusal}
+use Rattle.scheme.specs.declared.Refusal.{Refusal}
 use Rattle.scheme.specs.Bits.{cropped}
 use Rattle.scheme.specs.Bytes.{chunk, field, fields}
 use Rattle.scheme.specs.Cells.{Cell}
 use Rattle.scheme.specs.Bag.{Past, Bits, bits, hashes, raw_cell}
-use Rattle.bits.specs.Field.{byte_at, skip_fields_at, numbers_at}
+use Rattle.bits.specs.Field.{byte_at, skip_at, skip_fields_at, numbers_at}
 use Rattle.bits.specs.Laws.{chunk-cases, skip-whole, skip-cut, skip-fields-end, fields-are}
 use Rattle.raw_cell.specs.Frame.{bits_in, data_at, body_at, frame}
 use Rattle.raw_cell.specs.Data.{bits_at}
@@ -26,6 +27,11 @@ cell_in b size f = record {
 
 abbrev pub cell_past : List ℕ → ℕ → RawCell → Past Cell
 cell_past b size f = record { it = cell_in b size f; next = f.next }
+
+-- hashes that are not whole
+pub hashes-cut : (b : List ℕ) (size d1 d2 p : ℕ) (r : Refusal) → skip_at b p (hashes d1) ≡ Err r → Err r ≡ body_at b size d1 d2 p
+unfolding body_at
+hashes-cut b size d1 d2 p r e = rw e
 
 -- the parts of `raw_cell`: the references at place `links`, the data at place p and what follows it, the hashes at place p and what follows them
 abbrev raw_links : List ℕ → ℕ → ℕ → ℕ → Bits → Res (Past Cell)

@@ -1,8 +1,12 @@
 -- Laws of the copies' lengths and of how many records are copied. Assumes nothing.
-use Rattle.std.specs.Prelude.{◌≡◌, refl, ℕ, zero, suc, ◌+◌, ◌*◌, ◌<◌, ◌≤◌, List, length, get_or}
+use Rattle.std.specs.Prelude.{◌≡◌, refl, ℕ, zero, suc, ◌+◌, ◌*◌, ◌<◌, ◌≤◌, min, List, length, get_or}
 use Rattle.std.proofs.Common.{◌∙◌, arith, length-set}
 use Rattle.records.specs.declared.CellRecord.{CellRecord}
 use Rattle.records.specs.Record.{blank, record_of, put_flat, room_for, export_recs, import_recs}
+
+-- the lesser of two is at most each
+pub lesser-le : (x y : ℕ) → (min x y ≤ x) × (min x y ≤ y)
+lesser-le x y = (omega arith, omega arith)
 
 pub room-places : (a b n : ℕ) → room_for a b n ≤ b
 room-places a b n = omega arith

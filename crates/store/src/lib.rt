@@ -57,6 +57,8 @@ fn above(xs: &[u32]) -> usize
 }
 
 // The lowest number of a stored cell that equals this one, or the count of cells. It is none of the first start.
+// Compiled by itself: as a part of `place` the search would keep in memory, and not in registers, what it compares.
+#[inline(never)]
 fn find_cell(cells: Cells, start: usize, cell: Content) -> usize
     requires fields { Fields cells.count cells.table.now cells.bytes.now }
     requires bits_bound { (cell.bits ≤ 1023) × (length cell.refs.now ≤ 4) × (bytes_for cell.bits ≤ length cell.block.now) }
@@ -88,17 +90,44 @@ fn find_cell(cells: Cells, start: usize, cell: Content) -> usize
     }
 }
 
-// Writes the seven numbers of a record.
+// The same, of a cell whose references are held. An equal cell has a greater number than its references, so the search starts above them:
+// where the last cell is one of them, there is none to look at.
+fn number_of(cells: Cells, cell: Content) -> usize
+    requires cells_value { sound cells.count cells.table.now cells.bytes.now ≡ true }
+    requires bits_bound { (cell.bits ≤ 1023) × (length cell.refs.now ≤ 4) × (bytes_for cell.bits ≤ length cell.block.now) }
+    requires by_index { (k : ℕ) → k < length cell.refs.now → get_or cell.refs.now k 0 < cells.count }
+    ensures { result ≡ find (cells_of cells.entry.count cells.entry.table.now cells.entry.bytes.now)
+        (cell_of cell.entry.flag cell.entry.bits cell.entry.block.now cell.entry.refs.now) }
+{
+    let start = above(cell.refs);
+    if start < cells.count {
+        return find_cell(cells, start, cell);
+    }
+    cells.count
+}
+
+// Number k, or 0 past the end.
+fn number_at(xs: &[u32], k: usize) -> u32
+    ensures { result ≡ get_or xs.now k 0 }
+{
+    xs.get(k).copied().unwrap_or(0)
+}
+
+// Writes the seven numbers of a record. The references are taken one by one, which is faster than a copy of so few.
 fn put_row(table: &mut [u32], row: usize, cell: Content)
     requires { (row + 7 ≤ length table.old) × ((cell.bits ≤ 1023) × (length cell.refs.now ≤ 4)) }
     ensures { table.new ≡ puts table.old row (row_of [] (cell_of cell.entry.flag cell.entry.bits [] cell.entry.refs.now)) }
 {
     let refs = cell.refs;
-    let mut numbers = [0; RECORD_LEN];
-    numbers[EXOTIC] = cell.flag;
-    numbers[BITS_LEN] = cell.bits as u32;
-    numbers[REFS_COUNT] = refs.len() as u32;
-    numbers[FIRST_REF..FIRST_REF + refs.len()].copy_from_slice(refs);
+    let numbers = [
+        cell.flag,
+        cell.bits as u32,
+        refs.len() as u32,
+        number_at(refs, 0),
+        number_at(refs, 1),
+        number_at(refs, 2),
+        number_at(refs, 3),
+    ];
     put(&numbers, table, row);
 }
 
@@ -106,7 +135,6 @@ fn put_row(table: &mut [u32], row: usize, cell: Content)
 // slices. So count, table and bytes stay apart.
 
 // Interface between crates: finds a cell in a sound store, or appends it. Its block is its 128 data bytes.
-// An equal cell has a greater number than its references, so the search starts above them.
 #[tactic(auto, using(crate::proofs::Room::room))]
 pub fn place(
     count: &mut usize,
@@ -128,7 +156,7 @@ pub fn place(
         table,
         bytes,
     };
-    let number = find_cell(cells, above(cell.refs), cell);
+    let number = number_of(cells, cell);
     if number < n {
         return Ok(number);
     }
@@ -136,7 +164,8 @@ pub fn place(
         return Err(Reason::Full.at(0));
     }
     put_row(table, n * RECORD_LEN, cell);
-    put(cell.block, bytes, n * DATA_LEN);
+    // Of a length that the compiler knows: the copy is no loop then.
+    put(&cell.block[..DATA_LEN], bytes, n * DATA_LEN);
     *count = n + 1;
     Ok(n)
 }
@@ -202,7 +231,9 @@ pub fn add_in(
     if cell.count > MAX_REFS_COUNT {
         return Err(Reason::Refs.at(0));
     }
-    let refs = &cell.refs[..cell.count];
+    // A copy, so that the cell itself need not be in memory.
+    let all = cell.refs;
+    let refs = &all[..cell.count];
     if let Some(k) = refs.iter().position(|r| *count <= *r as usize) {
         return Err(Reason::NoCell.at(k));
     }

@@ -150,11 +150,11 @@ fn put_hex(src: &[u8], out: &mut [u8], at: usize) -> usize
 }
 
 // Writes cell n's own part: bit length, `[0x`, the bytes, `]`.
-fn put_own(cells: Cells, out: &mut [u8], at: usize, n: usize) -> usize
-    requires cell_ok { CellOk cells.table.now cells.bytes.now n }
-    requires n_in_bounds { at + length (own_at cells.table.now cells.bytes.now n) ≤ length out.old }
-    ensures next { result ≡ at + length (own_at cells.entry.table.now cells.entry.bytes.now n) }
-    ensures put { out.new ≡ puts out.old at (own_at cells.entry.table.now cells.entry.bytes.now n) }
+fn put_own(cells: &Cells, out: &mut [u8], at: usize, n: usize) -> usize
+    requires cell_ok { CellOk cells.now.table.now cells.now.bytes.now n }
+    requires n_in_bounds { at + length (own_at cells.now.table.now cells.now.bytes.now n) ≤ length out.old }
+    ensures next { result ≡ at + length (own_at cells.now.table.now cells.now.bytes.now n) }
+    ensures put { out.new ≡ puts out.old at (own_at cells.now.table.now cells.now.bytes.now n) }
 {
     let len = cells.field(n, BITS_LEN);
     let a = put_decimal(out, at, len);
@@ -174,13 +174,13 @@ struct Walked {
 // Writes the text of cell n: its own part, and the texts of its references. Takes the cells that it prints off those allowed.
 // A cell and its reference list call each other, with a budget: the form that is asked for.
 #[cycle(print_cell_print_refs)]
-fn print_cell(cells: Cells, out: &mut [u8], at: usize, n: usize, left: usize) -> Walked
-    requires cells_ok { CellsOk cells.table.now cells.bytes.now (n + 1) }
-    requires n_in_bounds { at + length (text_at cells.table.now cells.bytes.now n) ≤ length out.old }
-    requires n_bound { size_at cells.table.now cells.bytes.now n ≤ left }
-    ensures next { result.next ≡ at + length (text_at cells.entry.table.now cells.entry.bytes.now n) }
-    ensures remains { result.left ≡ left - size_at cells.entry.table.now cells.entry.bytes.now n }
-    ensures put { out.new ≡ puts out.old at (text_at cells.entry.table.now cells.entry.bytes.now n) }
+fn print_cell(cells: &Cells, out: &mut [u8], at: usize, n: usize, left: usize) -> Walked
+    requires cells_ok { CellsOk cells.now.table.now cells.now.bytes.now (n + 1) }
+    requires n_in_bounds { at + length (text_at cells.now.table.now cells.now.bytes.now n) ≤ length out.old }
+    requires n_bound { size_at cells.now.table.now cells.now.bytes.now n ≤ left }
+    ensures next { result.next ≡ at + length (text_at cells.now.table.now cells.now.bytes.now n) }
+    ensures remains { result.left ≡ left - size_at cells.now.table.now cells.now.bytes.now n }
+    ensures put { out.new ≡ puts out.old at (text_at cells.now.table.now cells.now.bytes.now n) }
 {
     let rest = left - 1;
     let a = put_own(cells, out, at, n);
@@ -201,14 +201,14 @@ fn print_cell(cells: Cells, out: &mut [u8], at: usize, n: usize, left: usize) ->
 
 // Writes the texts of cell n's references from the j-th on, joined by `, `: each from what the one before it left.
 #[cycle(print_cell_print_refs)]
-fn print_refs(cells: Cells, out: &mut [u8], at: usize, n: usize, j: usize, left: usize) -> Walked
-    requires cells_ok { CellsOk cells.table.now cells.bytes.now (n + 1) }
-    requires j_bound { j < get_or cells.table.now (n * 7 + 2) 0 }
-    requires j_in_bounds { at + length (refs_text cells.table.now cells.bytes.now n j) ≤ length out.old }
-    requires j_bound_2 { refs_size cells.table.now cells.bytes.now n j ≤ left }
-    ensures next { result.next ≡ at + length (refs_text cells.entry.table.now cells.entry.bytes.now n j) }
-    ensures remains { result.left ≡ left - refs_size cells.entry.table.now cells.entry.bytes.now n j }
-    ensures put { out.new ≡ puts out.old at (refs_text cells.entry.table.now cells.entry.bytes.now n j) }
+fn print_refs(cells: &Cells, out: &mut [u8], at: usize, n: usize, j: usize, left: usize) -> Walked
+    requires cells_ok { CellsOk cells.now.table.now cells.now.bytes.now (n + 1) }
+    requires j_bound { j < get_or cells.now.table.now (n * 7 + 2) 0 }
+    requires j_in_bounds { at + length (refs_text cells.now.table.now cells.now.bytes.now n j) ≤ length out.old }
+    requires j_bound_2 { refs_size cells.now.table.now cells.now.bytes.now n j ≤ left }
+    ensures next { result.next ≡ at + length (refs_text cells.now.table.now cells.now.bytes.now n j) }
+    ensures remains { result.left ≡ left - refs_size cells.now.table.now cells.now.bytes.now n j }
+    ensures put { out.new ≡ puts out.old at (refs_text cells.now.table.now cells.now.bytes.now n j) }
 {
     let r = cells.field(n, FIRST_REF + j);
     let p = print_cell(cells, out, at, r, left);
@@ -272,7 +272,7 @@ pub fn debug_text(
     scratch.fill(0);
     verdict?;
     let limit = budget.min(MAX_BUDGET);
-    let p = print_cell(store, out, 0, n, limit);
+    let p = print_cell(&store, out, 0, n, limit);
     Ok(Printed {
         written: p.next,
         cells: limit - p.left,

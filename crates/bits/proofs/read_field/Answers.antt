@@ -1,9 +1,10 @@
 -- `bits::read_field` meets its contract. Assumes nothing.
-use Prim.Native.Nat.{◌+◌, ◌≤◌}
+use Prim.Native.Nat.{◌+◌, ◌-◌, ◌≤◌, min}
 use mathlib.Core.Path.{◌≡◌, sym, ◌∙◌}
 use native.Mathlib.Omega.{arith}
 use lib.ListN.{length}
 use Rattle.laws.specs.Answers.{handed-on}
+use Rattle.bits.specs.Field.{number_at}
 use Rattle.bits.specs.Laws.{skip-past, skip-bad, field-least, field_cut}
 use Rattle.bits.proofs.read_field.Goals as goal
 use Rattle.bits.proofs.read_field.Goals.{In_ok-next}
@@ -24,5 +25,7 @@ big_endian-requires c = let p = past (goal.at.big_endian-requires c).In_ok-next 
 
 pub returns : goal.returns
 returns c =
+    let a = c.args in
     let p = past (goal.at.returns c).In_ok-next in
-    rw (c.big_endian.ensures, c.min-len.ensures, p.0) (sym (field-least _ _ _ p.1))
+    let e : c.big_endian.result ≡ number_at a.bytes.now (min a.n 8) (a.at + a.n - min a.n 8) = grind (arith, p) in
+    rw (e, p.0) (sym (field-least _ _ _ p.1))

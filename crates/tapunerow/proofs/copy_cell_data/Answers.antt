@@ -18,7 +18,7 @@ returns-in_err-cell c =
     (copy_refused _ _ _ _ _ _ (asked-refused _ _ c.cell.ensures _ c.in_err-cell.was))
 
 pub returns-then-out-own : goal.returns-then-out-own
-returns-then-out-own c = rw c.at.ensures (copy_over _ _ _ _ _ _ c.cell_data-own.ensures c.if-out-own.true)
+returns-then-out-own c = rw c.at.ensures (copy_over _ _ _ _ _ _ c.cell_data-own.ensures (omega arith))
 
 -- the cell is held: its data is not empty, or it was asked for
 held : (c : Else-out-own) → (s : Refusal) → asking c.args.store.count c.args.store.table.now c.args.store.bytes.now c.args.n ≡ Err s → ⊥

@@ -11,17 +11,17 @@ use Rattle.text.proofs.+print_cell_print_refs.Goals as goal
 pub print_cell-overflow_sub-rest : goal.print_cell-overflow_sub-rest
 print_cell-overflow_sub-rest t c =
     let ok = (c.requires.cells_ok c.args.n (omega arith)).ok in
-    omega (arith, size-eq c.args.cells.table.now c.args.cells.bytes.now c.args.n ok)
+    omega (arith, size-eq c.args.cells.now.table.now c.args.cells.now.bytes.now c.args.n ok)
 
 pub print_cell-put_own-a-requires-clause-n_in_bounds : goal.print_cell-put_own-a-requires-clause-n_in_bounds
 print_cell-put_own-a-requires-clause-n_in_bounds t c =
     let ok = (c.requires.cells_ok c.args.n (omega arith)).ok in
-    omega (arith, own-le c.args.cells.table.now c.args.cells.bytes.now c.args.n ok)
+    omega (arith, own-le c.args.cells.now.table.now c.args.cells.now.bytes.now c.args.n ok)
 
 pub print_cell-returns-then-k-eq0 : goal.print_cell-returns-then-k-eq0
 print_cell-returns-then-k-eq0 t c =
-    let T = c.args.cells.table.now in
-    let D = c.args.cells.bytes.now in
+    let T = c.args.cells.now.table.now in
+    let D = c.args.cells.now.bytes.now in
     let n = c.args.n in
     let ok = (c.requires.cells_ok n (omega arith)).ok in
     let k : get_or T (n * 7 + 2) 0 ≡ 0 = omega arith in
@@ -34,16 +34,16 @@ print_cell-returns-then-k-eq0 t c =
 
 pub print_cell-put-b-requires : goal.print_cell-put-b-requires
 print_cell-put-b-requires t c =
-    let T = c.args.cells.table.now in
+    let T = c.args.cells.now.table.now in
     let n = c.args.n in
     let ok = (c.requires.cells_ok n (omega arith)).ok in
     let k = some-refs T n _ c.field-k.ensures c.if-k-eq0.false in
-    omega (arith, node-length T c.args.cells.bytes.now n ok k)
+    omega (arith, node-length T c.args.cells.now.bytes.now n ok k)
 
 pub print_cell-print_refs-p-requires : goal.print_cell-print_refs-p-requires
 print_cell-print_refs-p-requires t c =
-    let T = c.args.cells.table.now in
-    let D = c.args.cells.bytes.now in
+    let T = c.args.cells.now.table.now in
+    let D = c.args.cells.now.bytes.now in
     let n = c.args.n in
     let ok = (c.requires.cells_ok n (omega arith)).ok in
     let k = some-refs T n _ c.field-k.ensures c.if-k-eq0.false in
@@ -52,16 +52,16 @@ print_cell-print_refs-p-requires t c =
 
 pub print_cell-put_byte-requires : goal.print_cell-put_byte-requires
 print_cell-put_byte-requires t c =
-    let T = c.args.cells.table.now in
+    let T = c.args.cells.now.table.now in
     let n = c.args.n in
     let ok = (c.requires.cells_ok n (omega arith)).ok in
     let k = some-refs T n _ c.field-k.ensures c.if-k-eq0.false in
-    omega (arith, node-length T c.args.cells.bytes.now n ok k)
+    omega (arith, node-length T c.args.cells.now.bytes.now n ok k)
 
 pub print_cell-returns : goal.print_cell-returns
 print_cell-returns t c =
-    let T = c.args.cells.table.now in
-    let D = c.args.cells.bytes.now in
+    let T = c.args.cells.now.table.now in
+    let D = c.args.cells.now.bytes.now in
     let n = c.args.n in
     let ok = (c.requires.cells_ok n (omega arith)).ok in
     let k = some-refs T n _ c.field-k.ensures c.if-k-eq0.false in
@@ -81,8 +81,8 @@ print_cell-returns t c =
 
 pub print_refs-print_cell-p-requires : goal.print_refs-print_cell-p-requires
 print_refs-print_cell-p-requires t c =
-    let T = c.args.cells.table.now in
-    let D = c.args.cells.bytes.now in
+    let T = c.args.cells.now.table.now in
+    let D = c.args.cells.now.bytes.now in
     let n = c.args.n in
     let j = c.args.j in
     let h = c.requires.j_bound in
@@ -99,8 +99,8 @@ print_refs-print_cell-p-requires t c =
 
 pub print_refs-returns-then-k-j : goal.print_refs-returns-then-k-j
 print_refs-returns-then-k-j t c =
-    let T = c.args.cells.table.now in
-    let D = c.args.cells.bytes.now in
+    let T = c.args.cells.now.table.now in
+    let D = c.args.cells.now.bytes.now in
     let n = c.args.n in
     let j = c.args.j in
     let h = c.requires.j_bound in
@@ -117,8 +117,8 @@ print_refs-returns-then-k-j t c =
 
 pub print_refs-put-b-requires : goal.print_refs-put-b-requires
 print_refs-put-b-requires t c =
-    let T = c.args.cells.table.now in
-    let D = c.args.cells.bytes.now in
+    let T = c.args.cells.now.table.now in
+    let D = c.args.cells.now.bytes.now in
     let n = c.args.n in
     let j = c.args.j in
     let ok = (c.requires.cells_ok n (omega arith)).ok in
@@ -128,8 +128,8 @@ print_refs-put-b-requires t c =
 
 pub print_refs-print_refs-requires : goal.print_refs-print_refs-requires
 print_refs-print_refs-requires t c =
-    let T = c.args.cells.table.now in
-    let D = c.args.cells.bytes.now in
+    let T = c.args.cells.now.table.now in
+    let D = c.args.cells.now.bytes.now in
     let n = c.args.n in
     let j = c.args.j in
     let h = c.requires.j_bound in
@@ -141,8 +141,8 @@ print_refs-print_refs-requires t c =
 
 pub print_refs-returns : goal.print_refs-returns
 print_refs-returns t c =
-    let T = c.args.cells.table.now in
-    let D = c.args.cells.bytes.now in
+    let T = c.args.cells.now.table.now in
+    let D = c.args.cells.now.bytes.now in
     let n = c.args.n in
     let j = c.args.j in
     let h = c.requires.j_bound in
